@@ -1,0 +1,6 @@
+//! The top call of the product: words in, a report or one fault line out, and a status.
+#![tactic(auto)]
+
+mod plain;
+
+pub use plain::{Argument, Operator, Step};
