@@ -1,0 +1,5 @@
+pub mod Clamp
+pub mod Extremes
+pub mod Floor
+pub mod Nearest
+pub mod Within
