@@ -1,0 +1,4 @@
+pub mod PlainProgram
+pub mod PlainMeaning
+pub mod PlainAnalysis
+pub mod PlainSound
