@@ -1,5 +1,8 @@
 //! Programs of the plain form: scalars of 16 bits, and steps that each store one saturating sum or difference.
 
+pub mod analysis;
+pub mod laws;
+
 /// What a step computes.
 #[derive(Clone, Copy)]
 pub enum Operator {

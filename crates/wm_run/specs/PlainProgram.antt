@@ -1,0 +1,8 @@
+-- A program of the plain form, as plain data.
+use Rattle.std.specs.Prelude.{ℕ, List}
+use Rattle.wm_run.specs.declared.plain.Step.{Step}
+
+-- the letters of the scalars in the order of declaration, and the steps in the order of the text
+pub record Program : Type 0 where
+  pub names : List ℕ
+  pub steps : List Step
