@@ -215,3 +215,96 @@ fn step_turn<'t>(
     steps.push(step)?;
     Ok((true, steps, rest))
 }
+
+/// The names of one declaration, after those that are known.
+fn names_at(names: Vec<u8>, tokens: &[Token]) -> Result<(Vec<u8>, &[Token]), Unread>
+    ensures { Gives (λ x. (x.0.items, x.1.now)) result (names_at names.items tokens.now) }
+{
+    let mut known = names;
+    let mut rest = tokens;
+    for _ in 0..tokens.len() {
+        let (more, found, after) = name_turn(known, rest)?;
+        if !more {
+            return Ok((found, after));
+        }
+        known = found;
+        rest = after;
+    }
+    Err(Unread::NotTheForm)
+}
+
+/// A declaration, or the end of the declarations, which tells that no other one follows.
+#[tactic(auto, unfolding(crate::specs::Grammar::declaration_turn))]
+fn declaration_turn(
+    names: Vec<u8>,
+    tokens: &[Token],
+) -> Result<(bool, Vec<u8>, &[Token]), Unread>
+    ensures { Gives (λ x. (x.0, x.1.items, x.2.now)) result (declaration_turn names.items tokens.now) }
+{
+    if !is_word16_next(tokens) {
+        return Ok((false, names, tokens));
+    }
+    let (names, rest) = names_at(names, &tokens[1..])?;
+    Ok((true, names, rest))
+}
+
+fn declarations_at(alloc: Global, tokens: &[Token]) -> Result<(Vec<u8>, &[Token]), Unread>
+    ensures { Gives (λ x. (x.0.items, x.1.now)) result (declarations_at tokens.now) }
+{
+    let mut names = Vec::new(alloc);
+    let mut rest = tokens;
+    for _ in 0..tokens.len() {
+        let (more, found, after) = declaration_turn(names, rest)?;
+        if !more {
+            return Ok((found, after));
+        }
+        names = found;
+        rest = after;
+    }
+    Err(Unread::NotTheForm)
+}
+
+fn steps_at<'t>(
+    alloc: Global,
+    names: &[u8],
+    tokens: &'t [Token],
+) -> Result<(Vec<Step>, &'t [Token]), Unread>
+    ensures { Gives (λ x. (x.0.items, x.1.now)) result (steps_at names.now tokens.now) }
+{
+    let mut steps = Vec::new(alloc);
+    let mut rest = tokens;
+    for _ in 0..tokens.len() {
+        let (more, found, after) = step_turn(names, steps, rest)?;
+        if !more {
+            return Ok((found, after));
+        }
+        steps = found;
+        rest = after;
+    }
+    Err(Unread::NotTheForm)
+}
+
+#[tactic(auto, unfolding(crate::specs::Grammar::unit_at))]
+fn unit_at(alloc: Global, tokens: &[Token]) -> Result<Program, Unread>
+    ensures { Gives viewed result (unit_at tokens.now) }
+{
+    let (names, rest) = declarations_at(alloc, tokens)?;
+    let rest = header_at(rest)?;
+    let (steps, rest) = steps_at(alloc, &names, rest)?;
+    if !rest.is_empty() {
+        return Err(Unread::NotTheForm);
+    }
+    Ok(Program { names, steps })
+}
+
+/// The program of a source of the plain form.
+///
+/// `NotTheForm`: the source is not of the form.
+#[tactic(auto, unfolding(crate::specs::Grammar::program_of))]
+pub fn program_of(alloc: Global, source: &[u8]) -> Result<Program, Unread>
+    requires { length source.now ≤ 65536 }
+    ensures { Gives viewed result (program_of source.now) }
+{
+    let tokens = tokens_of(alloc, source)?;
+    unit_at(alloc, &tokens)
+}
