@@ -1,1 +1,2 @@
-mod PlainLaws
+pub mod PlainBoxes
+pub mod PlainLaws
