@@ -1,3 +1,6 @@
+pub mod Reading
+pub mod Tokens
+pub mod Scan
 pub mod PlainProgram
 pub mod PlainMeaning
 pub mod PlainAnalysis

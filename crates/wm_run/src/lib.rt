@@ -2,5 +2,5 @@
 #![tactic(auto)]
 
 mod plain;
-
-pub use plain::{Argument, Operator, Step};
+mod tokens;
+mod unread;

@@ -14,7 +14,7 @@ pub enum Operator {
 #[derive(Clone, Copy)]
 pub enum Argument {
     /// The scalar at this position in the order of declaration, from 0.
-    Variable(u8),
+    Variable(usize),
     /// A number from 0 to 32767.
     Number(u16),
 }
@@ -22,7 +22,7 @@ pub enum Argument {
 /// `target = operator(first, second);`, with the place of the operator's name: its line and its byte column, both from 1.
 #[derive(Clone, Copy)]
 pub struct Step {
-    pub target: u8,
+    pub target: usize,
     pub operator: Operator,
     pub first: Argument,
     pub second: Argument,
