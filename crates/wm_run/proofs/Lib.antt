@@ -1,2 +1,4 @@
 pub mod PlainBoxes
+pub mod PlainStates
+pub mod PlainRuns
 pub mod PlainLaws

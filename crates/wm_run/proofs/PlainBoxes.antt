@@ -51,16 +51,18 @@ pub exact_result_bounds : (op : Operator) (a b : Bounds) → a.low ≤ℤ a.high
 exact_result_bounds op a b h k =
     record {
       low = record { attained = low_result op a b h k; least = above_low op a b };
-      high = record { attained = high_result op a b h k; greatest = below_high op a b }
+      high = record { attained = high_result op a b h k; greatest = below_high op a b };
     }
 
 -- results and so their ends have 16 bits
 pub result_bounds_fit : (op : Operator) (a b : Bounds) → a.low ≤ℤ a.high → b.low ≤ℤ b.high → ((result_bounds op a b).low ≤ℤ (result_bounds op a b).high) × IsWord16 (result_bounds op a b).low × IsWord16 (result_bounds op a b).high
 unfolding result_bounds
 result_bounds_fit op a b h k =
-    let r = low_result op a b h k in
-    (le_trans (result_in op a b r.x r.y r.x_in r.y_in).above (result_in op a b r.x r.y r.x_in r.y_in).below,
-    clamp_within (negsuc 32767) (pos 32767) _ (omega (arith, ints)), clamp_within (negsuc 32767) (pos 32767) _ (omega (arith, ints)))
+    let r = low_result op a b h k in (
+      le_trans (result_in op a b r.x r.y r.x_in r.y_in).above (result_in op a b r.x r.y r.x_in r.y_in).below,
+      clamp_within (negsuc 32767) (pos 32767) _ (omega (arith, ints)),
+      clamp_within (negsuc 32767) (pos 32767) _ (omega (arith, ints)),
+    )
 
 -- ---- failing
 
@@ -71,9 +73,9 @@ IsOut z = (z <ℤ negsuc 32767) ⊎ (pos 32767 <ℤ z)
 clamp_changes : (z : ℤ) → clamp16 z ≢ z → IsOut z
 clamp_changes z changes =
     elim (clamp_cases (negsuc 32767) (pos 32767) z (omega (arith, ints))) [
-      inl low ↦ inl low.0
-    | inr (inl same) ↦ absurd (changes same.1)
-    | inr (inr high) ↦ inr high.0
+      | inl low ↦ inl low.0
+      | inr (inl same) ↦ absurd (changes same.1)
+      | inr (inr high) ↦ inr high.0
     ]
 
 out_changes : (z : ℤ) → IsOut z → clamp16 z ≢ z
@@ -126,7 +128,7 @@ at_corner : (op : Operator) (a b : Bounds) → a.low ≤ℤ a.high → b.low ≤
 at_corner op a b h k e =
     record {
       fails = record { first_in = low_within h; second_in = low_within k; fails = saturates-true op a.low b.low e };
-      least = λ x y f. in_order a.low x b.low y f.first_in.above (λ same. f.second_in.above)
+      least = λ x y f. in_order a.low x b.low y f.first_in.above (λ same. f.second_in.above);
     }
 
 -- the least first operand fails, but not with the least second one
@@ -137,10 +139,10 @@ at_side Add a b h k w o =
       fails = record {
         first_in = low_within h;
         second_in = record { above = omega (arith, ints); below = omega (arith, ints) };
-        fails = out_changes _ (inr (omega (arith, ints)))
+        fails = out_changes _ (inr (omega (arith, ints)));
       };
       least = λ x y f. in_order a.low x (pos 32768 -ℤ a.low) y f.first_in.above
-      (λ same. let high : pos 32767 <ℤ (x +ℤ y) = past_high _ (omega (arith, ints)) (out_of Add a b x y f) in omega (arith, ints))
+          (λ same. let high : pos 32767 <ℤ (x +ℤ y) = past_high _ (omega (arith, ints)) (out_of Add a b x y f) in omega (arith, ints));
     }
 at_side Sub a b h k w o =
     let down : (a.low -ℤ b.high) <ℤ negsuc 32767 = past_low _ (omega (arith, ints)) o in
@@ -148,10 +150,10 @@ at_side Sub a b h k w o =
       fails = record {
         first_in = low_within h;
         second_in = record { above = omega (arith, ints); below = omega (arith, ints) };
-        fails = out_changes _ (inl (omega (arith, ints)))
+        fails = out_changes _ (inl (omega (arith, ints)));
       };
       least = λ x y f. in_order a.low x (a.low +ℤ pos 32769) y f.first_in.above
-      (λ same. let low : (x -ℤ y) <ℤ negsuc 32767 = past_low _ (omega (arith, ints)) (out_of Sub a b x y f) in omega (arith, ints))
+          (λ same. let low : (x -ℤ y) <ℤ negsuc 32767 = past_low _ (omega (arith, ints)) (out_of Sub a b x y f) in omega (arith, ints));
     }
 
 -- only greater first operands fail
@@ -162,10 +164,10 @@ at_reach Add a b h k w v o =
       fails = record {
         first_in = record { above = omega (arith, ints); below = omega (arith, ints) };
         second_in = high_within k;
-        fails = out_changes _ (inr (omega (arith, ints)))
+        fails = out_changes _ (inr (omega (arith, ints)));
       };
       least = λ x y f. let high : pos 32767 <ℤ (x +ℤ y) = past_high _ (omega (arith, ints)) (out_of Add a b x y f) in
-      in_order (pos 32768 -ℤ b.high) x b.high y (omega (arith, ints)) (λ same. omega (arith, ints))
+          in_order (pos 32768 -ℤ b.high) x b.high y (omega (arith, ints)) (λ same. omega (arith, ints));
     }
 at_reach Sub a b h k w v o =
     let up : pos 32767 <ℤ (a.high -ℤ b.low) = past_high _ (omega (arith, ints)) o in
@@ -173,10 +175,10 @@ at_reach Sub a b h k w v o =
       fails = record {
         first_in = record { above = omega (arith, ints); below = omega (arith, ints) };
         second_in = low_within k;
-        fails = out_changes _ (inr (omega (arith, ints)))
+        fails = out_changes _ (inr (omega (arith, ints)));
       };
       least = λ x y f. let high : pos 32767 <ℤ (x -ℤ y) = past_high _ (omega (arith, ints)) (out_of Sub a b x y f) in
-      in_order (pos 32768 +ℤ b.low) x b.low y (omega (arith, ints)) (λ same. f.second_in.above)
+          in_order (pos 32768 +ℤ b.low) x b.low y (omega (arith, ints)) (λ same. f.second_in.above);
     }
 
 -- no operand fails
