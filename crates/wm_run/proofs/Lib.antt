@@ -1,2 +1,5 @@
-mod PlainLaws
+pub mod PlainBoxes
+pub mod PlainStates
+pub mod PlainRuns
+pub mod PlainLaws
 mod Repeats

@@ -8,16 +8,16 @@ use Rattle.wm_run.specs.Grammar.{repeated}
 
 pub goes_on : {S : Type 0} (turn : S → List Token → Option (Bool × S × List Token)) (count i : ℕ) (s t : S) (ts us : List Token) (more : Bool) (total : Option (S × List Token))
     → i < count → turn s ts ≡ Some (more, t, us) → more ≡ true → repeated turn (count - i) s ts ≡ total → repeated turn (count - (i + 1)) t us ≡ total
-goes_on turn count i s t ts us more total lt h yes so_far =
+goes_on turn count i s t ts us more total lt h another so_far =
     let k : count - i ≡ suc (count - (i + 1)) = omega arith in
-    let one : repeated turn (count - i) s ts ≡ repeated turn (count - (i + 1)) t us = rw (k, h, yes) refl in
+    let one : repeated turn (count - i) s ts ≡ repeated turn (count - (i + 1)) t us = rw (k, h, another) refl in
     sym one ∙ so_far
 
 pub stops : {S : Type 0} (turn : S → List Token → Option (Bool × S × List Token)) (count i : ℕ) (s t : S) (ts us : List Token) (more : Bool) (total : Option (S × List Token))
     → i < count → turn s ts ≡ Some (more, t, us) → more ≡ false → repeated turn (count - i) s ts ≡ total → total ≡ Some (t, us)
-stops turn count i s t ts us more total lt h no so_far =
+stops turn count i s t ts us more total lt h last so_far =
     let k : count - i ≡ suc (count - (i + 1)) = omega arith in
-    let one : repeated turn (count - i) s ts ≡ Some (t, us) = rw (k, h, no) refl in
+    let one : repeated turn (count - i) s ts ≡ Some (t, us) = rw (k, h, last) refl in
     sym so_far ∙ one
 
 pub fails : {S : Type 0} (e : Unread) (turn : S → List Token → Option (Bool × S × List Token)) (count i : ℕ) (s : S) (ts : List Token) (total : Option (S × List Token))

@@ -1,0 +1,9 @@
+-- The laws, proved in PlainLaws.
+use Rattle.wm_run.proofs.PlainLaws.{plain_sound, plain_exact}
+use Rattle.wm_run.proofs.plain.laws.plain_laws.Goals as goal
+
+pub returns-clause-sound : goal.returns-clause-sound
+returns-clause-sound c = plain_sound
+
+pub returns-clause-exact : goal.returns-clause-exact
+returns-clause-exact c = plain_exact
