@@ -2,6 +2,7 @@ pub mod Reading
 pub mod Tokens
 pub mod Scan
 pub mod Grammar
+pub mod Specification
 pub mod PlainProgram
 pub mod PlainMeaning
 pub mod PlainAnalysis

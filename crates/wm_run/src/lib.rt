@@ -3,5 +3,6 @@
 
 mod plain;
 mod reader;
+mod specification;
 mod tokens;
 mod unread;
