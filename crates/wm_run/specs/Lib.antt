@@ -7,3 +7,4 @@ pub mod PlainProgram
 pub mod PlainMeaning
 pub mod PlainAnalysis
 pub mod PlainSound
+pub mod Report
