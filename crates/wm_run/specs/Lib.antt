@@ -7,4 +7,5 @@ pub mod PlainProgram
 pub mod PlainMeaning
 pub mod PlainAnalysis
 pub mod PlainSound
+pub mod PlainFindings
 pub mod Report

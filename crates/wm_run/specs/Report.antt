@@ -72,12 +72,16 @@ result_line false = codes "result open\n"
 unfoldable pub count_line : List ℕ → ℕ → List ℕ
 count_line word n = word ++ codes " " ++ decimal n ++ codes "\n"
 
+-- the number of sites, and their lines
+unfoldable pub sites_part : List ℕ → List Step → List Verdict → List ℕ
+sites_part file steps verdicts = count_line (codes "sites") (length steps) ++ site_lines file 1 steps verdicts
+
+-- the number of scalars, and their lines
+unfoldable pub states_part : List ℕ → List Bounds → List ℕ
+states_part names states = count_line (codes "states") (length names) ++ state_lines 1 names states
+
 -- the report of the findings of a program in a source file
 unfoldable pub report_text : List ℕ → Program → Findings → List ℕ
 report_text file program found =
-    codes "wmops report 1\n"
-    ++ count_line (codes "sites") (length program.steps) ++ site_lines file 1 program.steps found.verdicts
-    ++ count_line (codes "loops") 0
-    ++ count_line (codes "states") (length program.names) ++ state_lines 1 program.names found.states
-    ++ count_line (codes "bound") found.bound
-    ++ result_line (is_all_safe found)
+    codes "wmops report 1\n" ++ sites_part file program.steps found.verdicts ++ count_line (codes "loops") 0
+    ++ states_part program.names found.states ++ count_line (codes "bound") found.bound ++ result_line (is_all_safe found)
