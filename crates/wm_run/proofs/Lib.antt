@@ -4,3 +4,4 @@ pub mod PlainBoxes
 pub mod PlainStates
 pub mod PlainRuns
 pub mod PlainLaws
+mod Repeats

@@ -1,5 +1,5 @@
 -- Going over the bytes of a source from left to right, with the tokens met so far and the place of the next byte.
-use Rattle.std.specs.Prelude.{ℕ, ◌+◌, Bool, true, false, List, [], ◌∷◌, ◌++◌, fold, length, ◌==◌, if◌then◌else◌, Option, Some, None}
+use Rattle.std.specs.Prelude.{◌≡◌, ◌≤◌, ℕ, ◌+◌, Bool, true, false, List, [], ◌∷◌, ◌++◌, fold, length, ◌==◌, if◌then◌else◌, Option, Some, None}
 use Rattle.wm_run.specs.declared.tokens.Kind.{Kind}
 use Rattle.wm_run.specs.declared.tokens.Token.{Token}
 use Rattle.wm_run.specs.declared.tokens.Scanner.{Scanner}
@@ -21,6 +21,16 @@ scan_of s = record { tokens = s.tokens.items; word = s.word.items; begun = s.beg
 
 abbrev pub start : Scan
 start = record { tokens = []; word = []; begun = 1; line = 1; column = 1; is_sound = true }
+
+-- the place of the next byte
+pub record IsAt (line column : ℕ) (s : Scanner) : Type 0 where
+  pub line_is : s.line ≡ line
+  pub column_is : s.column ≡ column
+
+-- the place of the next byte is no further than this line and column
+pub record IsWithin (line column : ℕ) (s : Scanner) : Type 0 where
+  pub line_fits : s.line ≤ line
+  pub column_fits : s.column ≤ column
 
 -- with one more token that begins at a column of this line, or unsound where that is none
 unfoldable pub with_token : Scan → Option Kind → ℕ → Scan

@@ -2,5 +2,6 @@
 #![tactic(auto)]
 
 mod plain;
+mod reader;
 mod tokens;
 mod unread;

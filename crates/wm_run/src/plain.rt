@@ -29,3 +29,10 @@ pub struct Step {
     pub line: u32,
     pub column: u32,
 }
+
+/// A program: the letters of the scalars in the order of declaration, and the steps in the order of the text.
+#[derive(Drop)]
+pub struct Program {
+    pub names: Vec<u8>,
+    pub steps: Vec<Step>,
+}

@@ -3,6 +3,7 @@
 ghost use Rattle.std.specs.Prelude.{◌≡◌, ◌+◌, ◌<◌, ◌≤◌, ◌^◌, length, OnOk};
 ghost use Rattle.wm_run.specs.Reading.{Gives};
 ghost use Rattle.wm_run.specs.Tokens.{is_word_byte, is_blank, mark_of, is_zero_led, digits_after, letter_or_number, word_of};
+ghost use Rattle.wm_run.specs.Scan.{tokens_of};
 
 use crate::plain::Operator;
 use crate::unread::Unread;
@@ -87,7 +88,7 @@ fn digits_of(word: &[u8]) -> Option<u16>
         if !digit.is_ascii_digit() {
             return None;
         }
-        let next = u32::from(number) * 10 + u32::from(*digit - b'0');
+        let next = number as u32 * 10 + (*digit - b'0') as u32;
         if next >= 32768 {
             return None;
         }
@@ -97,6 +98,7 @@ fn digits_of(word: &[u8]) -> Option<u16>
 }
 
 /// What a word or a number is.
+#[tactic(auto, unfolding(crate::specs::Tokens::word_of))]
 fn word_of(word: &[u8]) -> Option<Kind>
     ensures { result ≡ word_of word.now }
 {
@@ -135,7 +137,7 @@ fn letter_or_number(word: &[u8]) -> Option<Kind>
 }
 
 impl Scanner {
-    ghost use Rattle.wm_run.specs.Scan.{scan_of, start, with_token, extended, word_ended, marked, moved, stepped};
+    ghost use Rattle.wm_run.specs.Scan.{scan_of, start, with_token, extended, word_ended, marked, moved, stepped, IsAt, IsWithin};
 
     fn new(alloc: Global) -> Scanner
         ensures { scan_of result ≡ start }
@@ -152,8 +154,9 @@ impl Scanner {
 
     /// Takes the token in, if it is one.
     #[tactic(auto, unfolding(crate::specs::Scan::with_token))]
-    fn push_token(&mut self, kind: Option<Kind>, column: u32) -> Result<(), Unread>
-        ensures { OnOk result (scan_of self.new ≡ with_token (scan_of self.old) kind column) }
+    fn push_token(&mut self, kind: Option<Kind>, column: u32) -> Result<(), AllocError>
+        ensures taken { OnOk result (scan_of self.new ≡ with_token (scan_of self.old) kind column) }
+        ensures place { OnOk result (IsAt self.old.line self.old.column self.new) }
     {
         match kind {
             Some(kind) => {
@@ -167,8 +170,9 @@ impl Scanner {
 
     /// Ends the word or number before a byte that belongs to none.
     #[tactic(auto, unfolding(crate::specs::Scan::word_ended))]
-    fn end_word(&mut self) -> Result<(), Unread>
-        ensures { OnOk result (scan_of self.new ≡ word_ended (scan_of self.old)) }
+    fn end_word(&mut self) -> Result<(), AllocError>
+        ensures taken { OnOk result (scan_of self.new ≡ word_ended (scan_of self.old)) }
+        ensures place { OnOk result (IsAt self.old.line self.old.column self.new) }
     {
         if self.word.is_empty() {
             return Ok(());
@@ -181,8 +185,9 @@ impl Scanner {
 
     /// Takes in a byte that belongs to no word.
     #[tactic(auto, unfolding(crate::specs::Scan::marked))]
-    fn take_mark(&mut self, byte: u8) -> Result<(), Unread>
-        ensures { OnOk result (scan_of self.new ≡ marked (scan_of self.old) byte) }
+    fn take_mark(&mut self, byte: u8) -> Result<(), AllocError>
+        ensures taken { OnOk result (scan_of self.new ≡ marked (scan_of self.old) byte) }
+        ensures place { OnOk result (IsAt self.old.line self.old.column self.new) }
     {
         if is_blank(byte) {
             return Ok(());
@@ -195,7 +200,8 @@ impl Scanner {
     fn go_past(&mut self, byte: u8)
         requires line { self.old.line + 1 < 2 ^ 32 }
         requires column { self.old.column + 1 < 2 ^ 32 }
-        ensures { scan_of self.new ≡ moved (scan_of self.old) byte }
+        ensures taken { scan_of self.new ≡ moved (scan_of self.old) byte }
+        ensures place { IsWithin (self.old.line + 1) (self.old.column + 1) self.new }
     {
         if byte == b'\n' {
             self.line += 1;
@@ -207,12 +213,48 @@ impl Scanner {
     }
 
     #[tactic(auto, unfolding(crate::specs::Scan::extended))]
-    fn extend_word(&mut self, byte: u8) -> Result<(), Unread>
+    fn extend_word(&mut self, byte: u8) -> Result<(), AllocError>
         requires { self.old.column + 1 < 2 ^ 32 }
-        ensures { OnOk result (scan_of self.new ≡ extended (scan_of self.old) byte) }
+        ensures taken { OnOk result (scan_of self.new ≡ extended (scan_of self.old) byte) }
+        ensures place { OnOk result (IsAt self.old.line (self.old.column + 1) self.new) }
     {
         self.word.push(byte)?;
         self.column += 1;
         Ok(())
     }
+    /// Takes in the next byte.
+    #[tactic(auto, unfolding(crate::specs::Scan::stepped))]
+    fn take(&mut self, byte: u8) -> Result<(), AllocError>
+        requires line { self.old.line + 1 < 2 ^ 32 }
+        requires column { self.old.column + 1 < 2 ^ 32 }
+        ensures taken { OnOk result (scan_of self.new ≡ stepped (scan_of self.old) byte) }
+        ensures place { OnOk result (IsWithin (self.old.line + 1) (self.old.column + 1) self.new) }
+    {
+        if is_word_byte(byte) {
+            return self.extend_word(byte);
+        }
+        self.end_word()?;
+        self.take_mark(byte)?;
+        self.go_past(byte);
+        Ok(())
+    }
+}
+
+/// The tokens of a source.
+///
+/// `NotTheForm`: a word or a byte of the source is no token.
+#[tactic(auto, unfolding(crate::specs::Scan::tokens_of))]
+pub fn tokens_of(alloc: Global, source: &[u8]) -> Result<Vec<Token>, Unread>
+    requires { length source.now ≤ 65536 }
+    ensures { Gives (λ tokens. tokens.items) result (tokens_of source.now) }
+{
+    let mut scanner = Scanner::new(alloc);
+    for byte in source {
+        scanner.take(*byte)?;
+    }
+    scanner.end_word()?;
+    if !scanner.is_sound {
+        return Err(Unread::NotTheForm);
+    }
+    Ok(scanner.tokens)
 }
