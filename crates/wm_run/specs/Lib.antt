@@ -2,7 +2,10 @@ pub mod Reading
 pub mod Tokens
 pub mod Scan
 pub mod Grammar
+pub mod Specification
 pub mod PlainProgram
 pub mod PlainMeaning
 pub mod PlainAnalysis
 pub mod PlainSound
+pub mod PlainFindings
+pub mod Report

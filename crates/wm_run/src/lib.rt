@@ -3,5 +3,7 @@
 
 mod plain;
 mod reader;
+mod report;
+mod specification;
 mod tokens;
 mod unread;

@@ -1,6 +1,7 @@
 //! Programs of the plain form: scalars of 16 bits, and steps that each store one saturating sum or difference.
 
 pub mod analysis;
+pub mod findings;
 pub mod laws;
 
 /// What a step computes.

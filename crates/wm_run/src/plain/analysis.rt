@@ -18,7 +18,7 @@ pub struct Bounds {
 }
 
 /// All numbers of 16 bits.
-const WORD16: Bounds = Bounds {
+pub const WORD16: Bounds = Bounds {
     low: MIN_16,
     high: MAX_16,
 };
@@ -214,7 +214,7 @@ impl Step {
 
 /// The verdicts of the steps' sites in their order, where before the first step each scalar may have any number of 16
 /// bits. An error is want of memory.
-pub fn verdicts(alloc: Global, scalars: usize, steps: &[Step]) -> Result<Vec<Verdict>, AllocError>
+pub fn verdicts_of(alloc: Global, scalars: usize, steps: &[Step]) -> Result<Vec<Verdict>, AllocError>
     requires { All (StepFits scalars) steps.now }
     ensures value { IfOk result (λ found. found.items ≡ verdicts_from (replicate scalars word16) steps.now) }
 {

@@ -1,6 +1,6 @@
 use Rattle.std.proofs.Common.{◌≡◌, length, replicate, All, ◌++◌, drop}
 use Rattle.wm_run.specs.PlainAnalysis.{word16, BoundsFit, verdicts_from}
-use Rattle.wm_run.proofs.plain.analysis.verdicts.Given as goal
+use Rattle.wm_run.proofs.plain.analysis.verdicts_of.Given as goal
 
 -- what is left gives what is left of the answer
 abbrev pub invariant-loop-step : goal.invariant-loop-step
