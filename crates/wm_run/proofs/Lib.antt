@@ -1,3 +1,5 @@
+pub mod PlainCode
+pub mod PlainBound
 pub mod PlainBoxes
 pub mod PlainStates
 pub mod PlainRuns

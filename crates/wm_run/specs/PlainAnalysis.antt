@@ -2,6 +2,7 @@
 -- site, an interval of each scalar at the beginning of a frame, and a bound of a frame's count.
 use Rattle.std.specs.Prelude.{ℕ, ◌+◌, List, [], ◌∷◌, length, replicate, ℤ, pos, negsuc, ◌+ℤ◌, ◌-ℤ◌, Option, Some, None, slice_index_or, slice_set, if◌then◌else◌}
 use Rattle.wm_numbers.specs.Clamp.{clamp16}
+use Rattle.wm_numbers.specs.Within.{IsWord16}
 use Rattle.wm_run.specs.declared.plain.Operator.{Operator}
 use Rattle.wm_run.specs.declared.plain.Operator.TheVariants.{Add, Sub}
 use Rattle.wm_run.specs.declared.plain.Argument.{Argument}
@@ -17,6 +18,11 @@ use Rattle.wm_run.specs.PlainMeaning.{saturates}
 -- all numbers of 16 bits
 abbrev pub word16 : Bounds
 word16 = record { low = negsuc 32767; high = pos 32767 }
+
+-- an interval of numbers of 16 bits
+pub record BoundsFit (bounds : Bounds) : Type 0 where
+  pub low_fits : IsWord16 bounds.low
+  pub high_fits : IsWord16 bounds.high
 
 -- the label of a step: an interval for each scalar in the order of declaration
 abbrev pub Label : Type 0

@@ -6,7 +6,7 @@ ghost use Rattle.wm_run.specs.PlainAnalysis.{findings, word16};
 ghost use Rattle.wm_run.specs.PlainProgram.{viewed};
 
 use crate::plain::Program;
-use crate::plain::analysis::{Bounds, Verdict, verdicts_of};
+use crate::plain::analysis::{Bounds, Verdict, WORD16, verdicts_of};
 use std::alloc::{AllocError, Global};
 
 /// A verdict of each site, an interval of each scalar at the beginning of each frame, and a bound of a frame's count.
@@ -16,12 +16,6 @@ pub struct Findings {
     pub states: Vec<Bounds>,
     pub bound: u64,
 }
-
-/// All numbers of 16 bits.
-pub const WORD16: Bounds = Bounds {
-    low: -32768,
-    high: 32767,
-};
 
 fn full_states(alloc: Global, scalars: usize) -> Result<Vec<Bounds>, AllocError>
     ensures { IfOk result (λ states. states.items ≡ replicate scalars word16) }
