@@ -5,3 +5,4 @@ pub mod PlainStates
 pub mod PlainRuns
 pub mod PlainLaws
 mod Repeats
+mod ReportFacts

@@ -35,6 +35,14 @@ decided variants.SpecificationNotYet = SpecificationNotYet
 decided (variants.ReadFailed name) = ReadFailed name.items
 decided variants.Words = Words
 
+-- the findings in a report are those of its program
+abbrev pub IsOwn : Decided → Type 0
+IsOwn (Report file program found) = found ≡ findings program all_ones
+IsOwn SourceNotYet = ⊤
+IsOwn SpecificationNotYet = ⊤
+IsOwn (ReadFailed name) = ⊤
+IsOwn Words = ⊤
+
 abbrev pub status_of : Decided → ℕ
 status_of (Report file program found) = if is_all_safe found then 0 else 1
 status_of SourceNotYet = 2

@@ -35,10 +35,15 @@ impl Findings {
         requires { All (StepFits (length program.now.names.items)) program.now.steps.items }
         ensures { IfOk result (λ found. found_of found ≡ findings (viewed program.now) all_ones) }
     {
+        let scalars = program.names.as_slice().len();
+        let steps = program.steps.as_slice();
+        let verdicts = verdicts_of(alloc, scalars, steps)?;
+        let states = full_states(alloc, scalars)?;
+        let bound = steps.len() as u64;
         Ok(Findings {
-            verdicts: verdicts_of(alloc, program.names.len(), &program.steps)?,
-            states: full_states(alloc, program.names.len())?,
-            bound: program.steps.len() as u64,
+            verdicts,
+            states,
+            bound,
         })
     }
 }
