@@ -1,9 +1,9 @@
 //! The findings of a plain program: what a report tells.
 
-ghost use Rattle.std.specs.Prelude.{◌≡◌, IfOk, replicate};
+ghost use Rattle.std.specs.Prelude.{◌≡◌, IfOk};
 ghost use Rattle.wm_run.specs.PlainMeaning.{all_ones};
-ghost use Rattle.wm_run.specs.PlainAnalysis.{findings, word16};
-ghost use Rattle.wm_run.specs.PlainProgram.{viewed};
+ghost use Rattle.wm_run.specs.PlainAnalysis.{findings};
+ghost use Rattle.wm_run.specs.PlainProgram.{ProgramFits, viewed};
 
 use crate::plain::Program;
 use crate::plain::analysis::{Bounds, Verdict, WORD16, verdicts_of};
@@ -17,26 +17,17 @@ pub struct Findings {
     pub bound: u64,
 }
 
-fn full_states(alloc: Global, scalars: usize) -> Result<Vec<Bounds>, AllocError>
-    ensures { IfOk result (λ states. states.items ≡ replicate scalars word16) }
-{
-    let mut states = Vec::new(alloc);
-    for _ in 0..scalars {
-        states.push(WORD16)?;
-    }
-    Ok(states)
-}
-
 impl Findings {
     ghost use Rattle.wm_run.specs.PlainFindings.{found_of};
 
     /// The findings of a program, where each counted word weighs 1.
     pub fn of(alloc: Global, program: &Program) -> Result<Findings, AllocError>
+        requires { ProgramFits (viewed program.now) }
         ensures { IfOk result (λ found. found_of found ≡ findings (viewed program.now) all_ones) }
     {
         Ok(Findings {
             verdicts: verdicts_of(alloc, program.names.len(), &program.steps)?,
-            states: full_states(alloc, program.names.len())?,
+            states: vec![in alloc; WORD16; program.names.len()]?,
             bound: program.steps.len() as u64,
         })
     }
