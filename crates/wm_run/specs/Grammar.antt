@@ -4,8 +4,8 @@
 --     step     = V "=" ("add" | "sub") "(" argument "," argument ")" ";"
 --     argument = V | number
 --
--- V is one lower-case letter, declared once and before use. Each part gives a value and the tokens after it, or nothing.
-use Rattle.std.specs.Prelude.{ℕ, zero, suc, Bool, true, false, List, [], ◌∷◌, ◌++◌, length, drop, ◌==◌, position, if◌then◌else◌, Option, Some, None, option_map}
+-- V is one lower-case letter, declared once and before use, and a number is at most 32767. Each part gives a value and the tokens after it, or nothing.
+use Rattle.std.specs.Prelude.{ℕ, zero, suc, Bool, true, false, List, [], ◌∷◌, ◌++◌, length, drop, ◌==◌, position, nat_lt, if◌then◌else◌, Option, Some, None, option_map}
 use Rattle.std.specs.List.{list_any}
 use Rattle.wm_run.specs.declared.plain.Operator.{Operator}
 use Rattle.wm_run.specs.declared.plain.Argument.{Argument}
@@ -76,7 +76,7 @@ variable_at names ts = do
 
 abbrev pub argument_of : List ℕ → Kind → Option Argument
 argument_of names (kind.Letter letter) = option_map argument.Variable (position (λ name. name == letter) names)
-argument_of names (kind.Number number) = Some (argument.Number number)
+argument_of names (kind.Number number) = if nat_lt number 32768 then Some (argument.Number number) else None
 argument_of names _ = None
 
 abbrev pub argument_at : List ℕ → List Token → Option (Argument × List Token)

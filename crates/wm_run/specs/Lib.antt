@@ -9,3 +9,4 @@ pub mod PlainAnalysis
 pub mod PlainSound
 pub mod PlainFindings
 pub mod Report
+pub mod Decision

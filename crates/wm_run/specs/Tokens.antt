@@ -23,10 +23,10 @@ is_mark b = b == 44 || b == 59 || b == 61 || b == 40 || b == 41 || b == 123 || b
 abbrev pub mark_of : ℕ → Option Kind
 mark_of b = if is_mark b then Some (Mark b) else None
 
--- the number with these decimal digits after those of n, where it is at most 32767
+-- the number with these decimal digits after those of n, where it has at most 16 bits
 abbrev pub digits_after : ℕ → List ℕ → Option ℕ
 digits_after n [] = Some n
-digits_after n (d ∷ ds) = if is_ascii_digit d && nat_lt (n * 10 + (d - 48)) 32768 then digits_after (n * 10 + (d - 48)) ds else None
+digits_after n (d ∷ ds) = if is_ascii_digit d && nat_lt (n * 10 + (d - 48)) 65536 then digits_after (n * 10 + (d - 48)) ds else None
 
 -- a zero stands before other digits
 abbrev pub is_zero_led : List ℕ → Bool

@@ -1,6 +1,8 @@
 //! The top call of the product: words in, a report or one fault line out, and a status.
 #![tactic(auto)]
 
+mod decision;
+mod input;
 mod plain;
 mod reader;
 mod report;

@@ -1,9 +1,9 @@
 //! The program of a source of the plain form, read from its tokens: one function for each part of the grammar.
 
-ghost use Rattle.std.specs.Prelude.{◌≡◌, ◌≤◌, length, position, ◌==◌, option_map};
+ghost use Rattle.std.specs.Prelude.{◌≡◌, ◌<◌, ◌≤◌, length, position, ◌==◌, All, IfSome, IfOk};
 ghost use Rattle.wm_run.specs.Reading.{Gives};
 ghost use Rattle.wm_run.specs.Grammar.{is_next, is_mark_of, is_word16, is_void, is_frame, after, after_mark, letter_at, operator_at, variable_at, argument_of, argument_at, arguments_at, step_at, separator_at, name_turn, names_at, declaration_turn, declarations_at, header_at, step_turn, steps_at, unit_at, program_of};
-ghost use Rattle.wm_run.specs.PlainProgram.{viewed};
+ghost use Rattle.wm_run.specs.PlainProgram.{viewed, ArgumentFits, StepFits};
 
 use crate::plain::{Argument, Operator, Program, Step};
 use crate::tokens::{Kind, Token, tokens_of};
@@ -44,14 +44,16 @@ fn letter_at(tokens: &[Token]) -> Result<(u8, &[Token]), Unread>
 }
 
 fn position_of(names: &[u8], letter: u8) -> Option<usize>
-    ensures { result ≡ position (λ name. name == letter) names.now }
+    ensures value { result ≡ position (λ name. name == letter) names.now }
+    ensures fits { IfSome result (λ k. k < length names.now) }
 {
     names.iter().position(|name| *name == letter)
 }
 
 #[tactic(auto, unfolding(crate::specs::Grammar::variable_at))]
 fn variable_at<'t>(names: &[u8], tokens: &'t [Token]) -> Result<(usize, &'t [Token]), Unread>
-    ensures { Gives (λ x. (x.0, x.1.now)) result (variable_at names.now tokens.now) }
+    ensures value { Gives (λ x. (x.0, x.1.now)) result (variable_at names.now tokens.now) }
+    ensures fits { IfOk result (λ x. x.0 < length names.now) }
 {
     let (letter, rest) = letter_at(tokens)?;
     match position_of(names, letter) {
@@ -73,20 +75,27 @@ fn operator_at(tokens: &[Token]) -> Result<(Operator, u32, u32, &[Token]), Unrea
 }
 
 fn argument_of(names: &[u8], kind: Kind) -> Option<Argument>
-    ensures { result ≡ argument_of names.now kind }
+    ensures value { result ≡ argument_of names.now kind }
+    ensures fits { IfSome result (ArgumentFits (length names.now)) }
 {
     match kind {
         Kind::Letter(letter) => match position_of(names, letter) {
             Some(position) => Some(Argument::Variable(position)),
             None => None,
         },
-        Kind::Number(number) => Some(Argument::Number(number)),
+        Kind::Number(number) => {
+            if number < 32768 {
+                return Some(Argument::Number(number));
+            }
+            None
+        }
         _ => None,
     }
 }
 
 fn argument_at<'t>(names: &[u8], tokens: &'t [Token]) -> Result<(Argument, &'t [Token]), Unread>
-    ensures { Gives (λ x. (x.0, x.1.now)) result (argument_at names.now tokens.now) }
+    ensures value { Gives (λ x. (x.0, x.1.now)) result (argument_at names.now tokens.now) }
+    ensures fits { IfOk result (λ x. ArgumentFits (length names.now) x.0) }
 {
     let Some((first, rest)) = tokens.split_first() else {
         return Err(Unread::NotTheForm);
@@ -99,7 +108,9 @@ fn argument_at<'t>(names: &[u8], tokens: &'t [Token]) -> Result<(Argument, &'t [
 
 #[tactic(auto, unfolding(crate::specs::Grammar::arguments_at))]
 fn arguments_at<'t>(names: &[u8], tokens: &'t [Token]) -> Result<(Argument, Argument, &'t [Token]), Unread>
-    ensures { Gives (λ x. (x.0, x.1, x.2.now)) result (arguments_at names.now tokens.now) }
+    ensures value { Gives (λ x. (x.0, x.1, x.2.now)) result (arguments_at names.now tokens.now) }
+    ensures first_fits { IfOk result (λ x. ArgumentFits (length names.now) x.0) }
+    ensures second_fits { IfOk result (λ x. ArgumentFits (length names.now) x.1) }
 {
     let rest = after_mark(b'(', tokens)?;
     let (first, rest) = argument_at(names, rest)?;
@@ -111,7 +122,8 @@ fn arguments_at<'t>(names: &[u8], tokens: &'t [Token]) -> Result<(Argument, Argu
 
 #[tactic(auto, unfolding(crate::specs::Grammar::step_at))]
 fn step_at<'t>(names: &[u8], tokens: &'t [Token]) -> Result<(Step, &'t [Token]), Unread>
-    ensures { Gives (λ x. (x.0, x.1.now)) result (step_at names.now tokens.now) }
+    ensures value { Gives (λ x. (x.0, x.1.now)) result (step_at names.now tokens.now) }
+    ensures fits { IfOk result (λ x. StepFits (length names.now) x.0) }
 {
     let (target, rest) = variable_at(names, tokens)?;
     let rest = after_mark(b'=', rest)?;
@@ -206,7 +218,9 @@ fn step_turn<'t>(
     mut steps: Vec<Step>,
     tokens: &'t [Token],
 ) -> Result<(bool, Vec<Step>, &'t [Token]), Unread>
-    ensures { Gives (λ x. (x.0, x.1.items, x.2.now)) result (step_turn names.now steps.items tokens.now) }
+    requires { All (StepFits (length names.now)) steps.items }
+    ensures value { Gives (λ x. (x.0, x.1.items, x.2.now)) result (step_turn names.now steps.items tokens.now) }
+    ensures fits { IfOk result (λ x. All (StepFits (length names.now)) x.1.items) }
 {
     if is_mark_next(b'}', tokens) {
         return Ok((false, steps, &tokens[1..]));
@@ -269,7 +283,8 @@ fn steps_at<'t>(
     names: &[u8],
     tokens: &'t [Token],
 ) -> Result<(Vec<Step>, &'t [Token]), Unread>
-    ensures { Gives (λ x. (x.0.items, x.1.now)) result (steps_at names.now tokens.now) }
+    ensures value { Gives (λ x. (x.0.items, x.1.now)) result (steps_at names.now tokens.now) }
+    ensures fits { IfOk result (λ x. All (StepFits (length names.now)) x.0.items) }
 {
     let mut steps = Vec::new(alloc);
     let mut rest = tokens;
@@ -286,7 +301,8 @@ fn steps_at<'t>(
 
 #[tactic(auto, unfolding(crate::specs::Grammar::unit_at))]
 fn unit_at(alloc: Global, tokens: &[Token]) -> Result<Program, Unread>
-    ensures { Gives viewed result (unit_at tokens.now) }
+    ensures value { Gives viewed result (unit_at tokens.now) }
+    ensures fits { IfOk result (λ p. All (StepFits (length p.names.items)) p.steps.items) }
 {
     let (names, rest) = declarations_at(alloc, tokens)?;
     let rest = header_at(rest)?;
@@ -303,7 +319,8 @@ fn unit_at(alloc: Global, tokens: &[Token]) -> Result<Program, Unread>
 #[tactic(auto, unfolding(crate::specs::Grammar::program_of))]
 pub fn program_of(alloc: Global, source: &[u8]) -> Result<Program, Unread>
     requires { length source.now ≤ 65536 }
-    ensures { Gives viewed result (program_of source.now) }
+    ensures value { Gives viewed result (program_of source.now) }
+    ensures fits { IfOk result (λ p. All (StepFits (length p.names.items)) p.steps.items) }
 {
     let tokens = tokens_of(alloc, source)?;
     unit_at(alloc, &tokens)

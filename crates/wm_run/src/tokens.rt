@@ -24,7 +24,7 @@ pub enum Kind {
     Operator(Operator),
     /// One lower-case letter, by its byte.
     Letter(u8),
-    /// A decimal number from 0 to 32767 without leading zero.
+    /// A decimal number from 0 to 65535 without leading zero.
     Number(u16),
 }
 
@@ -79,7 +79,7 @@ fn is_zero_led(word: &[u8]) -> bool
     word.len() > 1 && word[0] == b'0'
 }
 
-/// The number with these digits, where it is at most 32767.
+/// The number with these digits, where it has at most 16 bits.
 fn digits_of(word: &[u8]) -> Option<u16>
     ensures { result ≡ digits_after 0 word.now }
 {
@@ -89,7 +89,7 @@ fn digits_of(word: &[u8]) -> Option<u16>
             return None;
         }
         let next = number as u32 * 10 + (*digit - b'0') as u32;
-        if next >= 32768 {
+        if next >= 65536 {
             return None;
         }
         number = next as u16;

@@ -1,9 +1,9 @@
 //! The findings of a plain program: what a report tells.
 
-ghost use Rattle.std.specs.Prelude.{◌≡◌, IfOk};
+ghost use Rattle.std.specs.Prelude.{◌≡◌, IfOk, All, length};
 ghost use Rattle.wm_run.specs.PlainMeaning.{all_ones};
 ghost use Rattle.wm_run.specs.PlainAnalysis.{findings};
-ghost use Rattle.wm_run.specs.PlainProgram.{ProgramFits, viewed};
+ghost use Rattle.wm_run.specs.PlainProgram.{viewed, StepFits};
 
 use crate::plain::Program;
 use crate::plain::analysis::{Bounds, Verdict, WORD16, verdicts_of};
@@ -22,7 +22,7 @@ impl Findings {
 
     /// The findings of a program, where each counted word weighs 1.
     pub fn of(alloc: Global, program: &Program) -> Result<Findings, AllocError>
-        requires { ProgramFits (viewed program.now) }
+        requires { All (StepFits (length program.now.names.items)) program.now.steps.items }
         ensures { IfOk result (λ found. found_of found ≡ findings (viewed program.now) all_ones) }
     {
         Ok(Findings {

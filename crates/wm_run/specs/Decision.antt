@@ -1,0 +1,113 @@
+-- What a call comes to: a report or one fault, with its status and its text, from the words and from what the reads give.
+use Rattle.std.specs.Prelude.{◌≡◌, ◌⊎◌, ℕ, ◌<◌, ◌≤◌, List, [], ◌∷◌, ◌++◌, length, codes, if◌then◌else◌, Option, Some, None, IfSome, IsSomeAnd, MatchOption, ⊤}
+use Rattle.std.specs.FinMap.{get}
+use Rattle.std.specs.Str.{bytes_eq}
+use Rattle.wm_files.specs.Outside.{Held, Rose}
+use Rattle.wm_run.specs.declared.decision.Decision as declared
+use Rattle.wm_run.specs.declared.decision.Decision.TheVariants as variants
+use Rattle.wm_run.specs.declared.input.Input as inputs
+use Rattle.wm_run.specs.declared.input.Input.TheVariants as input
+use Rattle.wm_run.specs.PlainProgram.{Program, viewed}
+use Rattle.wm_run.specs.PlainMeaning.{all_ones}
+use Rattle.wm_run.specs.PlainAnalysis.{Findings, findings}
+use Rattle.wm_run.specs.PlainFindings.{found_of}
+use Rattle.wm_run.specs.Grammar.{program_of}
+use Rattle.wm_run.specs.Specification.{source_name}
+use Rattle.wm_run.specs.Report.{report_text, is_all_safe}
+
+pub data Decided : Type 0 where
+  -- the report of the findings of a program in a source file
+  Report : (file : List ℕ) → Program → Findings → Decided
+  -- the source is too long, or not of the plain form
+  SourceNotYet : Decided
+  -- the specification is too long, or not of the plain form
+  SpecificationNotYet : Decided
+  -- the file of this name could not be read
+  ReadFailed : (name : List ℕ) → Decided
+  -- the words are none that are known
+  Words : Decided
+
+-- a decision without where it lies in memory
+abbrev pub decided : declared.Decision → Decided
+decided (variants.Report file program found) = Report file.items (viewed program) (found_of found)
+decided variants.SourceNotYet = SourceNotYet
+decided variants.SpecificationNotYet = SpecificationNotYet
+decided (variants.ReadFailed name) = ReadFailed name.items
+decided variants.Words = Words
+
+abbrev pub status_of : Decided → ℕ
+status_of (Report file program found) = if is_all_safe found then 0 else 1
+status_of SourceNotYet = 2
+status_of SpecificationNotYet = 3
+status_of (ReadFailed name) = 5
+status_of Words = 8
+
+abbrev pub text_of : Decided → List ℕ
+text_of (Report file program found) = report_text file program found
+text_of SourceNotYet = codes "fault 2 NotYet\n"
+text_of SpecificationNotYet = codes "fault 3 NotYet\n"
+text_of (ReadFailed name) = codes "fault 5 read " ++ name ++ codes "\n"
+text_of Words = codes "fault 8 words\n"
+
+-- the specification's name where the words are 'prove' and a name
+abbrev pub prove_name : List (List ℕ) → Option (List ℕ)
+prove_name [] = None
+prove_name (first ∷ []) = None
+prove_name (first ∷ second ∷ []) = if bytes_eq first (codes "prove") then Some second else None
+prove_name (first ∷ second ∷ third ∷ rest) = None
+
+-- the greatest number of bytes that a specification or a source may have
+abbrev pub limit : ℕ
+limit = 65536
+
+-- what a read of a file gives: its bytes, too many of them, or nothing
+pub data Read : Type 0 where
+  Bytes : List ℕ → Read
+  TooLong : Read
+  Failed : Read
+
+-- what was read, without where it lies in memory
+abbrev pub read_of : inputs.Input → Read
+read_of (input.Bytes bytes) = Bytes bytes.items
+read_of input.TooLong = TooLong
+read_of input.Failed = Failed
+
+-- no more bytes than the limit
+abbrev pub IsShort : Read → Type 0
+IsShort (Bytes bytes) = length bytes ≤ limit
+IsShort TooLong = ⊤
+IsShort Failed = ⊤
+
+-- what a read that gives this says of what is held, and of the count of faults before and after it
+abbrev pub ReadGives : Option Held → ℕ → ℕ → List ℕ → Read → Type 0
+ReadGives held old new name (Bytes bytes) = (length bytes ≤ limit) × IfSome held (λ pairs. get pairs name ≡ Some bytes)
+ReadGives held old new name TooLong = IfSome held (λ pairs. IsSomeAnd (get pairs name) (λ bytes. limit < length bytes))
+ReadGives held old new name Failed = Rose old new ⊎ IsSomeAnd held (λ pairs. get pairs name ≡ None)
+
+-- what a source file of this text comes to
+abbrev pub with_program : List ℕ → Option Program → Decided
+with_program file None = SourceNotYet
+with_program file (Some program) = Report file program (findings program all_ones)
+
+abbrev pub with_source : List ℕ → Read → Decided
+with_source file (Bytes source) = with_program file (program_of source)
+with_source file TooLong = SourceNotYet
+with_source file Failed = ReadFailed file
+
+-- what a call comes to from the read of the source: there is a read of these files that gives it
+abbrev pub FromSource : Option Held → ℕ → ℕ → List ℕ → Decided → Type 0
+FromSource held old new file d = (read : Read) × ReadGives held old new file read × (d ≡ with_source file read)
+
+-- what a call comes to from what the read of the specification gave
+abbrev pub AfterSpecification : Option Held → ℕ → ℕ → List ℕ → Read → Decided → Type 0
+AfterSpecification held old new name (Bytes specification) d = MatchOption (source_name specification) (d ≡ SpecificationNotYet) (λ file. FromSource held old new file d)
+AfterSpecification held old new name TooLong d = d ≡ SpecificationNotYet
+AfterSpecification held old new name Failed d = d ≡ ReadFailed name
+
+-- what a call comes to from the read of the specification
+abbrev pub FromSpecification : Option Held → ℕ → ℕ → List ℕ → Decided → Type 0
+FromSpecification held old new name d = (read : Read) × ReadGives held old new name read × AfterSpecification held old new name read d
+
+-- the words, what is held, and the count of faults before and after the call lead to this
+abbrev pub LeadsTo : List (List ℕ) → Option Held → ℕ → ℕ → Decided → Type 0
+LeadsTo words held old new d = MatchOption (prove_name words) (d ≡ Words) (λ name. FromSpecification held old new name d)
