@@ -1,0 +1,4 @@
+pub mod formers
+pub mod Names
+pub mod Operators
+pub mod Words
