@@ -2,12 +2,15 @@
 //! other crate shares: the want of memory and a list.
 #![tactic(auto)]
 
+mod clamping;
 mod lists;
 mod memory;
 mod names;
 mod operators;
+mod outcomes;
 mod rows;
 mod search;
+mod sums;
 mod tables;
 mod words;
 
@@ -15,6 +18,7 @@ pub use lists::List;
 pub use memory::NoMemory;
 pub use names::{by_name, counted_by_name};
 pub use operators::{OPERATORS, Op, Width, arg_width, arity, name, op_at, op_number, result_width};
+pub use outcomes::Outcome;
 pub use tables::OpTable;
 pub use words::{
     COUNTED_WORDS, ControlWord, CountCall, Counted, counted_at, counted_name, counted_number,
