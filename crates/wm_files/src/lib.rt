@@ -5,6 +5,8 @@ mod memory;
 mod outside;
 mod plan;
 mod real;
+#[cfg(test)]
+mod tests;
 
 pub use memory::{MemoryFiles, MemorySink};
 pub use outside::{Files, ReadFault, Sink, WriteFault};

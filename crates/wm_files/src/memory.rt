@@ -80,7 +80,7 @@ impl Files for MemoryFiles {
         if self.plan.next_call_fails() {
             return Err(WriteFault::Failed);
         }
-        match set_pair(self.alloc, &mut self.pairs, name, bytes) {
+        match self.hold(name, bytes) {
             Ok(()) => Ok(()),
             Err(NoMemory) => Err(WriteFault::NoMemory),
         }

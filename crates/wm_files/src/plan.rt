@@ -2,7 +2,7 @@
 ghost use Rattle.std.specs.Prelude.{◌≡◌, ◌≤◌};
 ghost use Rattle.std.specs.Bool.{OnTrue};
 ghost use Rattle.wm_files.specs.Outside.{Rose};
-ghost use Rattle.wm_files.specs.Plan.{fresh, next_fails, after_call};
+ghost use Rattle.wm_files.specs.Plan.{fresh, next_fails, after_call, one_more as count_raised};
 
 use std::marker::Model;
 
@@ -42,12 +42,19 @@ impl FaultPlan {
         ensures rose { OnTrue result (Rose self.old.failed self.new.failed) }
         ensures count { self.old.failed ≤ self.new.failed }
     {
-        self.made = self.made.saturating_add(1);
+        self.made = one_more(self.made);
         let number = self.made;
         let fails = self.failing.contains(&number);
         if fails {
-            self.failed = self.failed.saturating_add(1);
+            self.failed = one_more(self.failed);
         }
         fails
     }
+}
+
+/// A count raised by one. It stays at its greatest number once it is there.
+pub(crate) fn one_more(count: u64) -> u64
+    ensures raised { result ≡ count_raised count }
+{
+    count.saturating_add(1)
 }

@@ -3,6 +3,7 @@ ghost use Rattle.std.specs.Prelude.{◌≡◌, ◌≤◌, None, OnErr};
 ghost use Rattle.wm_files.specs.Outside.{Rose};
 ghost use Rattle.wm_files.specs.Whole.{ReadsAll, WritesAll};
 
+use crate::plan::one_more;
 use crate::{Files, ReadFault, Sink, WriteFault};
 use std::alloc::Global;
 use std::fs::File;
@@ -32,7 +33,7 @@ impl<R: rt::Files> Files for RealFiles<R> {
     fn read(&mut self, alloc: Global, name: &[u8], limit: u64) -> Result<Vec<u8>, ReadFault> {
         match read_file(&self.system, alloc, name, limit) {
             Err(ReadFault::Failed) => {
-                self.faults = self.faults.saturating_add(1);
+                self.faults = one_more(self.faults);
                 Err(ReadFault::Failed)
             }
             answer => answer,
@@ -43,7 +44,7 @@ impl<R: rt::Files> Files for RealFiles<R> {
     fn write(&mut self, name: &[u8], bytes: &[u8]) -> Result<(), WriteFault> {
         let answer = write_file(&self.system, name, bytes);
         if answer.is_err() {
-            self.faults = self.faults.saturating_add(1);
+            self.faults = one_more(self.faults);
         }
         answer
     }
@@ -71,7 +72,7 @@ impl<R: Print> Sink for RealOut<R> {
     fn put(&mut self, bytes: &[u8]) -> Result<(), WriteFault> {
         let answer = write_whole(&mut io::writer(&self.system), bytes);
         if answer.is_err() {
-            self.faults = self.faults.saturating_add(1);
+            self.faults = one_more(self.faults);
         }
         answer
     }
@@ -112,7 +113,11 @@ const PIECE: usize = 8192;
 
 /// All that a source has left, where that is at most `limit` bytes. A source that gives no byte is at
 /// its end.
-fn read_whole<S: Read>(source: &mut S, alloc: Global, limit: u64) -> Result<Vec<u8>, ReadFault>
+pub(crate) fn read_whole<S: Read>(
+    source: &mut S,
+    alloc: Global,
+    limit: u64,
+) -> Result<Vec<u8>, ReadFault>
     ensures { ReadsAll (S.remaining source.old) limit result }
 {
     let mut bytes = Vec::new(alloc);
@@ -131,7 +136,7 @@ fn read_whole<S: Read>(source: &mut S, alloc: Global, limit: u64) -> Result<Vec<
 }
 
 /// Writes all of the bytes. A writer that takes none of a piece has failed.
-fn write_whole<W: Write>(to: &mut W, bytes: &[u8]) -> Result<(), WriteFault>
+pub(crate) fn write_whole<W: Write>(to: &mut W, bytes: &[u8]) -> Result<(), WriteFault>
     ensures { WritesAll (W.contents to.old) (W.contents to.new) bytes.now result }
 {
     let mut rest = bytes;
