@@ -60,7 +60,7 @@ macro_rules! one {
 }
 
 macro_rules! count_of_rows {
-    ([] $($op:ident $name:literal [$($arg:ident)*] $result:ident;)*) => {
+    ([] $($op:ident $formula:ident $name:literal [$($arg:ident)*] $result:ident $mark:ident;)*) => {
         0 $(+ one!($op))*
     };
 }
@@ -69,7 +69,7 @@ macro_rules! count_of_rows {
 pub const OPERATORS: usize = operator_rows!(count_of_rows!());
 
 macro_rules! every_op {
-    ([] $($op:ident $name:literal [$($arg:ident)*] $result:ident;)*) => {
+    ([] $($op:ident $formula:ident $name:literal [$($arg:ident)*] $result:ident $mark:ident;)*) => {
         [$(Op::$op),*]
     };
 }
@@ -78,7 +78,7 @@ macro_rules! every_op {
 pub(crate) const ALL: [Op; OPERATORS] = operator_rows!(every_op!());
 
 macro_rules! name_by_row {
-    ([$of:ident] $($op:ident $name:literal [$($arg:ident)*] $result:ident;)*) => {
+    ([$of:ident] $($op:ident $formula:ident $name:literal [$($arg:ident)*] $result:ident $mark:ident;)*) => {
         match $of {
             $(Op::$op => $name,)*
         }
@@ -86,7 +86,7 @@ macro_rules! name_by_row {
 }
 
 macro_rules! arg_widths_by_row {
-    ([$of:ident] $($op:ident $name:literal [$($arg:ident)*] $result:ident;)*) => {
+    ([$of:ident] $($op:ident $formula:ident $name:literal [$($arg:ident)*] $result:ident $mark:ident;)*) => {
         match $of {
             $(Op::$op => &[$(Width::$arg),*],)*
         }
@@ -94,7 +94,7 @@ macro_rules! arg_widths_by_row {
 }
 
 macro_rules! result_width_by_row {
-    ([$of:ident] $($op:ident $name:literal [$($arg:ident)*] $result:ident;)*) => {
+    ([$of:ident] $($op:ident $formula:ident $name:literal [$($arg:ident)*] $result:ident $mark:ident;)*) => {
         match $of {
             $(Op::$op => Width::$result,)*
         }

@@ -39,6 +39,7 @@ pub(crate) fn l_add(a: i64, b: i64) -> Clamped
     requires first { IsWord32 a }
     requires second { IsWord32 b }
     ensures formula { result ≡ l_add_of a b }
+    ensures within { IsWord32 result.value }
 {
     to32(a + b)
 }
@@ -47,6 +48,7 @@ pub(crate) fn l_sub(a: i64, b: i64) -> Clamped
     requires first { IsWord32 a }
     requires second { IsWord32 b }
     ensures formula { result ≡ l_sub_of a b }
+    ensures within { IsWord32 result.value }
 {
     to32(a - b)
 }
