@@ -48,22 +48,18 @@ mod tests {
 
     #[test]
     fn a_product_has_its_ends_at_any_corner(rt: HostRuntime) {
-        for (a, b, c, d, low, high) in [
-            (-2, 3, -5, 4, -15, 12),
-            (-3, -2, -5, -4, 8, 15),
-            (2, 3, -5, -4, -15, -8),
-            (
-                -2147483648,
-                2147483647,
-                -2147483648,
-                2147483647,
-                -4611686016279904256,
-                4611686018427387904,
-            ),
-            (0, 0, -7, 7, 0, 0),
-        ] {
-            let product = Interval::new(a, b).mul(Interval::new(c, d));
-            assert_eq!(rt; product, Interval::new(low, high), "at {a} {b} {c} {d}");
-        }
+        let below = Interval::new(-3, -2);
+        let across = Interval::new(-2, 3);
+        let above = Interval::new(2, 3);
+        let other = Interval::new(-5, 4);
+        let words = Interval::new(-2147483648, 2147483647);
+        assert_eq!(rt; across.mul(other), Interval::new(-15, 12));
+        assert_eq!(rt; below.mul(Interval::new(-5, -4)), Interval::new(8, 15));
+        assert_eq!(rt; above.mul(Interval::new(-5, -4)), Interval::new(-15, -8));
+        assert_eq!(rt; Interval::new(0, 0).mul(other), Interval::new(0, 0));
+        assert_eq!(rt;
+            words.mul(words),
+            Interval::new(-4611686016279904256, 4611686018427387904)
+        );
     }
 }
