@@ -3,5 +3,6 @@ pub mod PlainBound
 pub mod PlainBoxes
 pub mod PlainStates
 pub mod PlainRuns
+pub mod PlainOperators
 pub mod PlainLaws
 mod Repeats
