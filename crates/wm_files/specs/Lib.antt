@@ -1,1 +1,5 @@
+pub mod Memory
 pub mod Outside
+pub mod Pairs
+pub mod Plan
+pub mod Whole

@@ -1,2 +1,5 @@
 pub mod Clamps
+pub mod Extremes
+pub mod Floors
 pub mod Order
+pub mod Products

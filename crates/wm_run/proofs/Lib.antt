@@ -3,6 +3,8 @@ pub mod PlainBound
 pub mod PlainBoxes
 pub mod PlainStates
 pub mod PlainRuns
+pub mod PlainOperators
 pub mod PlainLaws
 mod Repeats
 mod ReportFacts
+mod Widening

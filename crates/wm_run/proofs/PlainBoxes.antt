@@ -70,7 +70,7 @@ result_bounds_fit op a b h k =
 abbrev pub IsOut : ℤ → Type 0
 IsOut z = (z <ℤ negsuc 32767) ⊎ (pos 32767 <ℤ z)
 
-clamp_changes : (z : ℤ) → clamp16 z ≢ z → IsOut z
+pub clamp_changes : (z : ℤ) → clamp16 z ≢ z → IsOut z
 clamp_changes z changes =
     elim (clamp_cases (negsuc 32767) (pos 32767) z (omega (arith, ints))) [
       | inl low ↦ inl low.0

@@ -6,6 +6,7 @@ pub mod Specification
 pub mod PlainProgram
 pub mod PlainMeaning
 pub mod PlainAnalysis
+pub mod PlainOperators
 pub mod PlainSound
 pub mod PlainFindings
 pub mod Report

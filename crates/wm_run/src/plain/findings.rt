@@ -1,8 +1,8 @@
 //! The findings of a plain program: what a report tells.
 
-ghost use Rattle.std.specs.Prelude.{◌≡◌, IfOk, replicate, All, length};
+ghost use Rattle.std.specs.Prelude.{◌≡◌, IfOk, All, length};
 ghost use Rattle.wm_run.specs.PlainMeaning.{all_ones};
-ghost use Rattle.wm_run.specs.PlainAnalysis.{findings, word16};
+ghost use Rattle.wm_run.specs.PlainAnalysis.{findings};
 ghost use Rattle.wm_run.specs.PlainProgram.{viewed, StepFits};
 
 use crate::plain::Program;
@@ -17,16 +17,6 @@ pub struct Findings {
     pub bound: u64,
 }
 
-fn full_states(alloc: Global, scalars: usize) -> Result<Vec<Bounds>, AllocError>
-    ensures { IfOk result (λ states. states.items ≡ replicate scalars word16) }
-{
-    let mut states = Vec::new(alloc);
-    for _ in 0..scalars {
-        states.push(WORD16)?;
-    }
-    Ok(states)
-}
-
 impl Findings {
     ghost use Rattle.wm_run.specs.PlainFindings.{found_of};
 
@@ -35,15 +25,10 @@ impl Findings {
         requires { All (StepFits (length program.now.names.items)) program.now.steps.items }
         ensures { IfOk result (λ found. found_of found ≡ findings (viewed program.now) all_ones) }
     {
-        let scalars = program.names.as_slice().len();
-        let steps = program.steps.as_slice();
-        let verdicts = verdicts_of(alloc, scalars, steps)?;
-        let states = full_states(alloc, scalars)?;
-        let bound = steps.len() as u64;
         Ok(Findings {
-            verdicts,
-            states,
-            bound,
+            verdicts: verdicts_of(alloc, program.names.len(), &program.steps)?,
+            states: vec![in alloc; WORD16; program.names.len()]?,
+            bound: program.steps.len() as u64,
         })
     }
 }

@@ -1,0 +1,4 @@
+pub mod Bounds
+pub mod ClampLemmas
+pub mod NormLemmas
+pub mod ShiftLemmas

@@ -1,0 +1,14 @@
+pub mod formers
+pub mod Arguments
+pub mod Choices
+pub mod Clamping
+pub mod Division
+pub mod Names
+pub mod Norms
+pub mod Operators
+pub mod Outcomes
+pub mod Parts
+pub mod Products
+pub mod Shifts
+pub mod Sums
+pub mod Words
