@@ -11,3 +11,4 @@ pub mod PlainSound
 pub mod PlainFindings
 pub mod Report
 pub mod Decision
+pub mod Ends

@@ -1,6 +1,7 @@
 //! The top call of the product: words in, a report or one fault line out, and a status.
 #![tactic(auto)]
 
+mod call;
 mod decision;
 mod input;
 mod plain;
@@ -9,3 +10,5 @@ mod report;
 mod specification;
 mod tokens;
 mod unread;
+
+pub use call::run;

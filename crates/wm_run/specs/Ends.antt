@@ -1,0 +1,95 @@
+-- How a call ends: what its status and the sink say, whatever the world outside does.
+use Rattle.std.specs.Prelude.{◌≡◌, ◌⊎◌, ℕ, List, take, codes, Option, Some}
+use Rattle.wm_files.specs.Outside.{Held, Rose, grown}
+use Rattle.wm_run.specs.PlainProgram.{Program}
+use Rattle.wm_run.specs.PlainMeaning.{all_ones}
+use Rattle.wm_run.specs.PlainAnalysis.{findings}
+use Rattle.wm_run.specs.PlainSound.{Sound}
+use Rattle.wm_run.specs.Grammar.{program_of}
+use Rattle.wm_run.specs.Specification.{source_name}
+use Rattle.wm_run.specs.Report.{report_text}
+use Rattle.wm_run.specs.Decision.{Decided, Bytes, ReadGives, LeadsTo, status_of, text_of, prove_name}
+
+-- what a call is given, and what is seen of the world outside before and after it
+pub record Call : Type 0 where
+  pub words : List (List ℕ)
+  -- what the files hold, which no call changes
+  pub held : Option Held
+  pub file_faults_before : ℕ
+  pub file_faults_after : ℕ
+  pub written_before : Option (List ℕ)
+  pub written_after : Option (List ℕ)
+  pub sink_faults_before : ℕ
+  pub sink_faults_after : ℕ
+
+abbrev pub call_of : List (List ℕ) → Option Held → ℕ → ℕ → Option (List ℕ) → Option (List ℕ) → ℕ → ℕ → Call
+call_of words held file_faults_before file_faults_after written_before written_after sink_faults_before sink_faults_after =
+    record {
+      words = words;
+      held = held;
+      file_faults_before = file_faults_before;
+      file_faults_after = file_faults_after;
+      written_before = written_before;
+      written_after = written_after;
+      sink_faults_before = sink_faults_before;
+      sink_faults_after = sink_faults_after;
+    }
+
+-- the words, the files and the count of their faults lead to this decision
+abbrev pub Decides : Call → Decided → Type 0
+Decides call decision = LeadsTo call.words call.held call.file_faults_before call.file_faults_after decision
+
+-- what was written grew by these bytes
+abbrev pub Grew : Call → List ℕ → Type 0
+Grew call bytes = call.written_after ≡ grown call.written_before bytes
+
+-- memory ran out, and the line that says so was put, or a prefix of it
+pub record OnlyMemory (before after : Option (List ℕ)) (status : ℕ) : Type 0 where
+  pub status_is : status ≡ 7
+  pub size : ℕ
+  pub text : after ≡ grown before (take size (codes "fault 7 memory\n"))
+
+-- a text that has this status was put whole
+pub record PutWhole (wanted : ℕ) (text : List ℕ) (before after : Option (List ℕ)) (status : ℕ) : Type 0 where
+  pub status_is : status ≡ wanted
+  pub grew : after ≡ grown before text
+
+-- the sink failed, and a prefix of the text was put
+pub record PutPrefix (text : List ℕ) (before after : Option (List ℕ)) (old new status : ℕ) : Type 0 where
+  pub status_is : status ≡ 6
+  pub rose : Rose old new
+  pub size : ℕ
+  pub grew : after ≡ grown before (take size text)
+
+-- what became of a text that has this status
+abbrev pub PutAnswer : ℕ → List ℕ → Option (List ℕ) → Option (List ℕ) → ℕ → ℕ → ℕ → Type 0
+PutAnswer wanted text before after old new status = PutWhole wanted text before after status ⊎ (PutPrefix text before after old new status ⊎ OnlyMemory before after status)
+
+-- A decision is reached, and its text put whole, or a prefix of it where the sink failed, or memory ran out in the put.
+pub record Decidedly (call : Call) (status : ℕ) : Type 0 where
+  pub decision : Decided
+  pub decides : Decides call decision
+  pub put : PutAnswer (status_of decision) (text_of decision) call.written_before call.written_after call.sink_faults_before call.sink_faults_after status
+
+-- how each call ends: by a decision, or by want of memory before there is one
+abbrev pub Ends : Call → ℕ → Type 0
+Ends call status = Decidedly call status ⊎ OnlyMemory call.written_before call.written_after status
+
+-- the files were read so that they give this source file and this program
+pub record ReadsProgram (call : Call) (file : List ℕ) (program : Program) : Type 0 where
+  pub name : List ℕ
+  pub is_prove : prove_name call.words ≡ Some name
+  pub specification : List ℕ
+  pub specification_given : ReadGives call.held call.file_faults_before call.file_faults_after name (Bytes specification)
+  pub names_source : source_name specification ≡ Some file
+  pub source : List ℕ
+  pub source_given : ReadGives call.held call.file_faults_before call.file_faults_after file (Bytes source)
+  pub is_program : program_of source ≡ Some program
+
+-- what was written grew by the report of the findings of the program that the files give, and they are sound
+pub record SoundReport (call : Call) : Type 0 where
+  pub file : List ℕ
+  pub program : Program
+  pub read : ReadsProgram call file program
+  pub text : Grew call (report_text file program (findings program all_ones))
+  pub sound : Sound program all_ones (findings program all_ones)
