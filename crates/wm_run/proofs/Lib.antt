@@ -8,3 +8,5 @@ pub mod PlainLaws
 mod Repeats
 mod ReportFacts
 mod Widening
+mod Puts
+mod SoundReports
