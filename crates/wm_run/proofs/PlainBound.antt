@@ -1,5 +1,5 @@
 -- The findings where each word weighs 1, field by field.
-use Rattle.std.proofs.Common.{◌≡◌, ℕ, ◌+◌, List, [], ◌∷◌, length, replicate, refl, sym, ap, ◌∙◌, arith}
+use Rattle.std.proofs.Common.{◌≡◌, ℕ, List, [], ◌∷◌, length, replicate, refl, sym, ap, ◌∙◌, arith}
 use Rattle.wm_run.specs.declared.plain.Step.{Step}
 use Rattle.wm_run.specs.declared.plain.analysis.Bounds.{Bounds}
 use Rattle.wm_run.specs.declared.plain.analysis.Verdict.{Verdict}

@@ -1,17 +1,16 @@
 -- The operators of a plain program over boxes: the least and the greatest result, and the least failing operands.
-use Rattle.std.proofs.Common.{◌≡◌, ◌≢◌, ◌⊎◌, inl, inr, refl, sym, ◌∙◌, arith, Bool, true, false, not, cond, ℤ, pos, negsuc, ◌+ℤ◌, ◌-ℤ◌, ◌≤ℤ◌, ◌<ℤ◌, Option, Some, None}
+use Rattle.std.proofs.Common.{◌≡◌, ◌≢◌, ◌⊎◌, inl, inr, refl, sym, arith, Bool, true, false, not, cond, ℤ, pos, negsuc, ◌+ℤ◌, ◌-ℤ◌, ◌≤ℤ◌, ◌<ℤ◌, Some, None}
 use Rattle.std.proofs.lemmas.Int.{ints, by_lt_z}
 use Rattle.std.proofs.lemmas.Bool.Decides.{Decides-int_eq}
 use Rattle.std.specs.Ordering.{int_eq}
-use Rattle.wm_numbers.specs.Clamp.{clamp, clamp16}
-use Rattle.wm_numbers.specs.Within.{Within, IsWord16}
-use Rattle.wm_numbers.specs.Extremes.{LeastOf, GreatestOf, ResultOf2}
-use Rattle.wm_numbers.proofs.Clamps.{clamp_within, clamp_same, clamp_mono, clamp_fixed, clamp_cases}
-use Rattle.wm_numbers.proofs.Order.{le_refl, le_trans, le_of_eq, low_within, high_within, add_mono, sub_mono}
+use Rattle.wm_numbers.specs.Clamp.{clamp16}
+use Rattle.wm_numbers.specs.Within.{IsWord16}
+use Rattle.wm_numbers.specs.Extremes.{ResultOf2}
+use Rattle.wm_numbers.proofs.Clamps.{clamp_within, clamp_mono, clamp_fixed, clamp_cases}
+use Rattle.wm_numbers.proofs.Order.{le_trans, le_of_eq, low_within, high_within, add_mono, sub_mono}
 use Rattle.wm_run.specs.declared.plain.Operator.{Operator}
 use Rattle.wm_run.specs.declared.plain.Operator.TheVariants.{Add, Sub}
 use Rattle.wm_run.specs.declared.plain.analysis.Bounds.{Bounds}
-use Rattle.wm_run.specs.declared.plain.analysis.Failing.{Failing}
 use Rattle.wm_run.specs.PlainMeaning.{exact, result_of, saturates}
 use Rattle.wm_run.specs.PlainAnalysis.{exact_bounds, result_bounds, greatest_at, least_first, least_second, least_failing}
 use Rattle.wm_run.specs.PlainSound.{IsIn, FailsOn, FailsIn, ExactBounds, LeastFailing, IsLeastFailing}

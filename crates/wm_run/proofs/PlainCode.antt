@@ -1,5 +1,5 @@
 -- What the code of the analysis cites: its records field by field, and its tests one after another.
-use Rattle.std.proofs.Common.{◌≡◌, ap, refl, Bool, true, false, ℤ, List, Option, Some, None}
+use Rattle.std.proofs.Common.{◌≡◌, refl, true, false, ℤ, List, Option, Some, None}
 use Rattle.wm_run.specs.declared.plain.Operator.{Operator}
 use Rattle.wm_run.specs.declared.plain.Step.{Step}
 use Rattle.wm_run.specs.declared.plain.analysis.Bounds.{Bounds}

@@ -1,17 +1,15 @@
 -- The operators of the plain form are those of wm_ops.
-use Rattle.std.proofs.Common.{◌≡◌, ◌⊎◌, inl, inr, refl, sym, ap, ◌∙◌, arith, Bool, true, false, not, ◌&&◌, ℤ, pos, negsuc}
+use Rattle.std.proofs.Common.{◌≡◌, inl, inr, refl, arith, Bool, true, false, not, ◌&&◌, ℤ, pos, negsuc}
 use Rattle.std.proofs.lemmas.Int.{ints}
 use Rattle.std.proofs.lemmas.Bool.Decides.{Decides-int_eq}
 use Rattle.std.specs.Ordering.{int_eq}
 use Rattle.wm_numbers.specs.Clamp.{clamp16}
-use Rattle.wm_numbers.specs.Within.{IsWord16}
 use Rattle.wm_numbers.proofs.Clamps.{clamp_fixed}
-use Rattle.wm_ops.specs.declared.outcomes.Outcome.TheVariants.{Value}
 use Rattle.wm_ops.specs.Clamping.{leaves16}
 use Rattle.wm_ops.specs.Outcomes.{formula_of, in_domain, is_quiet, outcome_of}
 use Rattle.wm_ops.proofs.ClampLemmas.{leaves16_inside, leaves16_below, leaves16_above}
 use Rattle.wm_run.specs.declared.plain.Operator.TheVariants.{Add, Sub}
-use Rattle.wm_run.specs.PlainMeaning.{exact, saturates}
+use Rattle.wm_run.specs.PlainMeaning.{saturates}
 use Rattle.wm_run.specs.PlainOperators.{PlainOperators}
 use Rattle.wm_run.proofs.PlainBoxes.{IsOut, clamp_changes}
 

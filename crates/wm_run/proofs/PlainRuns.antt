@@ -1,22 +1,22 @@
 -- What the findings promise of an execution: by induction over its steps, and then over its frames.
-use Rattle.std.proofs.Common.{◌≡◌, ◌≢◌, ℕ, zero, suc, ◌+◌, ◌≤◌, Bool, true, false, List, [], ◌∷◌, ◌++◌, length, replicate, set, refl, sym, ap, ◌∙◌, arith, ℤ, pos, negsuc, Option, Some, None, slice_get}
+use Rattle.std.proofs.Common.{◌≡◌, ◌≢◌, ℕ, zero, suc, ◌+◌, ◌≤◌, Bool, true, false, List, [], ◌∷◌, ◌++◌, length, refl, sym, ap, ◌∙◌, arith, ℤ, pos, negsuc, Option, Some, None, slice_get}
 use Rattle.std.proofs.lemmas.Int.{ints}
 use Rattle.std.proofs.lemmas.List.{length-set, length-replicate}
 use Rattle.std.proofs.lemmas.List.Elements.{All-nil, All-cons, All-push, All-set, All-replicate, All-weaker}
 use Rattle.std.specs.Prelude.{⊤}
 use Rattle.std.specs.List.{All, AllZip}
-use Rattle.wm_numbers.specs.Within.{Within, IsWord16}
+use Rattle.wm_numbers.specs.Within.{IsWord16}
 use Rattle.wm_numbers.proofs.Clamps.{clamp_within}
 use Rattle.wm_run.specs.declared.plain.Operator.{Operator}
 use Rattle.wm_run.specs.declared.plain.Step.{Step}
 use Rattle.wm_run.specs.declared.plain.analysis.Bounds.{Bounds}
 use Rattle.wm_run.specs.declared.plain.analysis.Failing.{Failing}
 use Rattle.wm_run.specs.declared.plain.analysis.Verdict.{Verdict}
-use Rattle.wm_run.specs.declared.plain.analysis.Verdict.TheVariants.{Safe, Unproved}
+use Rattle.wm_run.specs.declared.plain.analysis.Verdict.TheVariants.{Safe}
 use Rattle.wm_run.specs.PlainProgram.{Program}
 use Rattle.wm_run.specs.PlainMeaning.{exact, result_of, saturates, Event, Counted, Failed, Cause, Saturates, State, Ran, Next, Out, step_from, then_go, noted, failed_if, value_in, operate, exec, call, count_of, initial, after, Frame, Result, result_now, frame_result, results_from, run_of}
-use Rattle.wm_run.specs.PlainAnalysis.{Label, word16, first_label, findings, bounds_in, least_failing, verdict_from, verdict_at, label_after, verdicts_from, bound_of, Findings}
-use Rattle.wm_run.specs.PlainSound.{IsIn, FailsOn, FailsIn, IsLeastFailing, IsFine, Shows, IfNext}
+use Rattle.wm_run.specs.PlainAnalysis.{Label, word16, first_label, findings, bounds_in, verdict_from, verdict_at, label_after, verdicts_from, bound_of, Findings}
+use Rattle.wm_run.specs.PlainSound.{IsIn, FailsIn, IsLeastFailing, IsFine, Shows, IfNext}
 use Rattle.wm_run.proofs.PlainBoxes.{saturates-true, least_failing_lem}
 use Rattle.wm_run.proofs.PlainStates.{HasNumber, value_in-bounds_in, bounds_in_number, label_after_number, label_after_holds, word16_holds}
 

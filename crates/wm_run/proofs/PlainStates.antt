@@ -1,16 +1,15 @@
 -- Labels and the cells that they hold of.
-use Rattle.std.proofs.Common.{◌≡◌, ℕ, zero, suc, ◌⊎◌, inl, inr, ◌<◌, ◌≤◌, List, [], ◌∷◌, length, replicate, get_or, set, refl, ap, sym, ◌∙◌, arith, ℤ, pos, negsuc, ◌≤ℤ◌}
-use Rattle.std.proofs.lemmas.Int.{ints}
+use Rattle.std.proofs.Common.{ℕ, zero, suc, List, [], ◌∷◌, length, replicate, get_or, set, ℤ, pos, ◌≤ℤ◌}
 use Rattle.std.proofs.lemmas.List.Elements.{All-head, All-tail, All-set}
 use Rattle.std.specs.List.{All, AllZip}
-use Rattle.wm_numbers.specs.Within.{Within, IsWord16}
+use Rattle.wm_numbers.specs.Within.{IsWord16}
 use Rattle.wm_numbers.proofs.Order.{low_within, le_refl}
 use Rattle.wm_run.specs.declared.plain.Argument.{Argument}
 use Rattle.wm_run.specs.declared.plain.Argument.TheVariants.{Variable, Number}
 use Rattle.wm_run.specs.declared.plain.Step.{Step}
 use Rattle.wm_run.specs.declared.plain.analysis.Bounds.{Bounds}
 use Rattle.wm_run.specs.PlainMeaning.{value_in, result_of}
-use Rattle.wm_run.specs.PlainAnalysis.{word16, Label, bounds_in, result_bounds, label_after}
+use Rattle.wm_run.specs.PlainAnalysis.{word16, Label, bounds_in, label_after}
 use Rattle.wm_run.specs.PlainSound.{IsIn}
 use Rattle.wm_run.proofs.PlainBoxes.{result_in, result_bounds_fit}
 

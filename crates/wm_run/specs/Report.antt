@@ -1,6 +1,6 @@
 -- The text of a report: a line for each site, loop and state, the bound and the result. Numbers are decimal, fields have one
 -- space between them, and each line ends with a line feed.
-use Rattle.std.specs.Prelude.{ℕ, ◌+◌, Bool, true, false, List, [], ◌∷◌, ◌++◌, length, codes, decimal, if◌then◌else◌}
+use Rattle.std.specs.Prelude.{ℕ, ◌+◌, Bool, true, false, List, [], ◌∷◌, ◌++◌, length, codes, decimal}
 use Rattle.std.specs.Fmt.{signed_decimal}
 use Rattle.std.specs.List.{list_all}
 use Rattle.wm_run.specs.declared.plain.Operator.{Operator}

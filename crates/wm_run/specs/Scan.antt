@@ -1,5 +1,5 @@
 -- Going over the bytes of a source from left to right, with the tokens met so far and the place of the next byte.
-use Rattle.std.specs.Prelude.{◌≡◌, ◌≤◌, ℕ, ◌+◌, Bool, true, false, List, [], ◌∷◌, ◌++◌, fold, length, ◌==◌, if◌then◌else◌, Option, Some, None}
+use Rattle.std.specs.Prelude.{◌≡◌, ◌≤◌, ℕ, ◌+◌, Bool, true, false, List, [], ◌∷◌, ◌++◌, length, ◌==◌, if◌then◌else◌, Option, Some, None}
 use Rattle.wm_run.specs.declared.tokens.Kind.{Kind}
 use Rattle.wm_run.specs.declared.tokens.Token.{Token}
 use Rattle.wm_run.specs.declared.tokens.Scanner.{Scanner}

@@ -1,6 +1,6 @@
 -- The tokens of a source of the plain form. Words and numbers are the longest runs of letters, digits and '_';
 -- between tokens stand spaces and line feeds. Each token has the line and the byte column of its first byte.
-use Rattle.std.specs.Prelude.{ℕ, ◌+◌, ◌-◌, ◌*◌, Bool, true, false, ◌&&◌, ◌||◌, List, [], ◌∷◌, codes, nat_lt, ◌==◌, if◌then◌else◌, length, Option, Some, None, option_map}
+use Rattle.std.specs.Prelude.{ℕ, ◌+◌, ◌-◌, ◌*◌, Bool, ◌&&◌, ◌||◌, List, [], ◌∷◌, codes, nat_lt, ◌==◌, if◌then◌else◌, length, Option, Some, None, option_map}
 use Rattle.std.specs.Char.{is_ascii_alphanumeric, is_ascii_digit, is_ascii_lowercase}
 use Rattle.std.specs.Str.{bytes_eq}
 use lib.ListN.{get_or}

@@ -30,7 +30,9 @@ pub enum Decision {
     /// The specification is too long, or not of the plain form.
     SpecificationNotYet,
     /// The file of this name could not be read.
-    ReadFailed { name: Vec<u8> },
+    ReadFailed {
+        name: Vec<u8>,
+    },
     /// The words are none that are known.
     Words,
 }
@@ -148,7 +150,11 @@ fn with_source(alloc: Global, file: &[u8], input: Input) -> Result<Decision, All
     }
 }
 
-fn decide_source<F: Files>(alloc: Global, file: &[u8], files: &mut F) -> Result<Decision, AllocError>
+fn decide_source<F: Files>(
+    alloc: Global,
+    file: &[u8],
+    files: &mut F,
+) -> Result<Decision, AllocError>
     ensures leads { IfOk result (λ d. FromSource (F.held files.old) (F.faults files.old) (F.faults files.new) file.now (decided d)) }
     ensures own { IfOk result (λ d. IsOwn (decided d)) }
     ensures held { F.held files.new ≡ F.held files.old }
@@ -158,7 +164,12 @@ fn decide_source<F: Files>(alloc: Global, file: &[u8], files: &mut F) -> Result<
     with_source(alloc, file, input)
 }
 
-fn with_specification<F: Files>(alloc: Global, name: &[u8], input: Input, files: &mut F) -> Result<Decision, AllocError>
+fn with_specification<F: Files>(
+    alloc: Global,
+    name: &[u8],
+    input: Input,
+    files: &mut F,
+) -> Result<Decision, AllocError>
     ensures leads { IfOk result (λ d. AfterSpecification (F.held files.old) (F.faults files.old) (F.faults files.new) name.now (read_of input) (decided d)) }
     ensures own { IfOk result (λ d. IsOwn (decided d)) }
     ensures held { F.held files.new ≡ F.held files.old }
@@ -174,7 +185,11 @@ fn with_specification<F: Files>(alloc: Global, name: &[u8], input: Input, files:
     }
 }
 
-fn decide_specification<F: Files>(alloc: Global, name: &[u8], files: &mut F) -> Result<Decision, AllocError>
+fn decide_specification<F: Files>(
+    alloc: Global,
+    name: &[u8],
+    files: &mut F,
+) -> Result<Decision, AllocError>
     ensures leads { IfOk result (λ d. FromSpecification (F.held files.old) (F.faults files.old) (F.faults files.new) name.now (decided d)) }
     ensures own { IfOk result (λ d. IsOwn (decided d)) }
     ensures held { F.held files.new ≡ F.held files.old }
@@ -185,7 +200,11 @@ fn decide_specification<F: Files>(alloc: Global, name: &[u8], files: &mut F) -> 
 }
 
 /// What the words and the files come to.
-pub fn decide<F: Files>(alloc: Global, words: &[String], files: &mut F) -> Result<Decision, AllocError>
+pub fn decide<F: Files>(
+    alloc: Global,
+    words: &[String],
+    files: &mut F,
+) -> Result<Decision, AllocError>
     ensures leads { IfOk result (λ d. LeadsTo (map string_bytes words.now) (F.held files.old) (F.faults files.old) (F.faults files.new) (decided d)) }
     ensures own { IfOk result (λ d. IsOwn (decided d)) }
     ensures held { F.held files.new ≡ F.held files.old }

@@ -107,7 +107,10 @@ fn argument_at<'t>(names: &[u8], tokens: &'t [Token]) -> Result<(Argument, &'t [
 }
 
 #[tactic(auto, unfolding(crate::specs::Grammar::arguments_at))]
-fn arguments_at<'t>(names: &[u8], tokens: &'t [Token]) -> Result<(Argument, Argument, &'t [Token]), Unread>
+fn arguments_at<'t>(
+    names: &[u8],
+    tokens: &'t [Token],
+) -> Result<(Argument, Argument, &'t [Token]), Unread>
     ensures value { Gives (λ x. (x.0, x.1, x.2.now)) result (arguments_at names.now tokens.now) }
     ensures first_fits { IfOk result (λ x. ArgumentFits (length names.now) x.0) }
     ensures second_fits { IfOk result (λ x. ArgumentFits (length names.now) x.1) }
@@ -249,10 +252,7 @@ fn names_at(names: Vec<u8>, tokens: &[Token]) -> Result<(Vec<u8>, &[Token]), Unr
 
 /// A declaration, or the end of the declarations, which tells that no other one follows.
 #[tactic(auto, unfolding(crate::specs::Grammar::declaration_turn))]
-fn declaration_turn(
-    names: Vec<u8>,
-    tokens: &[Token],
-) -> Result<(bool, Vec<u8>, &[Token]), Unread>
+fn declaration_turn(names: Vec<u8>, tokens: &[Token]) -> Result<(bool, Vec<u8>, &[Token]), Unread>
     ensures { Gives (λ x. (x.0, x.1.items, x.2.now)) result (declaration_turn names.items tokens.now) }
 {
     if !is_word16_next(tokens) {

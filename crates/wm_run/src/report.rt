@@ -86,7 +86,11 @@ fn push_verdict(text: &mut Vec<u8>, verdict: Verdict) -> Result<(), AllocError>
 {
     match verdict {
         Verdict::Safe => text.extend_from_slice(b"safe"),
-        Verdict::Unproved { first, second, failing } => push_unproved(text, first, second, failing),
+        Verdict::Unproved {
+            first,
+            second,
+            failing,
+        } => push_unproved(text, first, second, failing),
     }
 }
 

@@ -100,7 +100,7 @@ impl Operator {
 
     /// The second operand within its interval with which the result is greatest.
     fn greatest_at(self, b: Bounds) -> i64
-        requires { BoundsFit b }
+        requires b_fits { BoundsFit b }
         ensures fits { IsWord16 result }
         ensures value { result ≡ greatest_at self b }
     {
@@ -112,7 +112,7 @@ impl Operator {
 
     /// The least first operand whose result with `y` is past 32767.
     fn least_first(self, y: i64) -> i64
-        requires { IsWord16 y }
+        requires y_fits { IsWord16 y }
         ensures value { result ≡ least_first self y }
     {
         match self {
@@ -123,7 +123,7 @@ impl Operator {
 
     /// The least second operand whose result with `x` saturates, where the result with those below does not.
     fn least_second(self, x: i64) -> i64
-        requires { IsWord16 x }
+        requires x_fits { IsWord16 x }
         ensures value { result ≡ least_second self x }
     {
         match self {
@@ -214,8 +214,12 @@ impl Step {
 
 /// The verdicts of the steps' sites in their order, where before the first step each scalar may have any number of 16
 /// bits. An error is want of memory.
-pub fn verdicts_of(alloc: Global, scalars: usize, steps: &[Step]) -> Result<Vec<Verdict>, AllocError>
-    requires { All (StepFits scalars) steps.now }
+pub fn verdicts_of(
+    alloc: Global,
+    scalars: usize,
+    steps: &[Step],
+) -> Result<Vec<Verdict>, AllocError>
+    requires steps_fit { All (StepFits scalars) steps.now }
     ensures value { IfOk result (λ found. found.items ≡ verdicts_from (replicate scalars word16) steps.now) }
 {
     let mut label = vec![in alloc; WORD16; scalars]?;

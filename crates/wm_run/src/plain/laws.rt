@@ -9,5 +9,4 @@ pub fn plain_laws()
     ensures operators { PlainOperators }
     ensures sound { PlainSound }
     ensures exact { PlainExact }
-{
-}
+{}

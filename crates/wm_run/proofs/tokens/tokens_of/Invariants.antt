@@ -1,4 +1,4 @@
-use Rattle.std.proofs.Common.{◌≡◌, ◌≤◌, ◌+◌, drop}
+use Rattle.std.proofs.Common.{◌≡◌, ◌+◌, drop}
 use Rattle.wm_run.specs.Scan.{scan_of, scanned, start, IsWithin}
 use Rattle.wm_run.proofs.tokens.tokens_of.Given as goal
 
