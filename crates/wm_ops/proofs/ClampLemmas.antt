@@ -1,8 +1,10 @@
 -- When a clamp changes its number, and what it then gives.
-use Rattle.std.proofs.Common.{◌≡◌, arith, ℤ, pos, negsuc, true, false, ◌<ℤ◌, ap, ◌∙◌}
+use Rattle.std.proofs.Common.{◌≡◌, ◌⊎◌, ⊎_elim, inl, inr, arith, ℤ, pos, negsuc, Bool, true, false, IsTrue, ◌<ℤ◌, ap, ◌∙◌}
 use Rattle.std.proofs.lemmas.Int.{ints}
 use Rattle.wm_numbers.specs.Within.{IsWord16, IsWord32}
-use Rattle.wm_numbers.proofs.Clamps.{clamp_same, clamp_low, clamp_high}
+use Rattle.wm_numbers.specs.Clamp.{clamp16, clamp32}
+use Rattle.wm_numbers.proofs.Clamps.{clamp_same, clamp_low, clamp_high, clamp_fixed}
+use Rattle.wm_numbers.proofs.Order.{le_or_lt}
 use Rattle.wm_ops.specs.declared.clamping.Clamped.{Clamped}
 use Rattle.wm_ops.specs.Clamping.{leaves16, leaves32, exact, to16, to32}
 
@@ -72,3 +74,30 @@ pub to32_inside : (z : ℤ) → IsWord32 z → to32 z ≡ exact z
 to32_inside z within =
     ap (λ (v : ℤ). record { value = v; changed = leaves32 z }) (clamp_same (negsuc 2147483647) (pos 2147483647) z within) ∙
     ap (λ b. record { value = z; changed = b }) (leaves32_inside z within)
+
+-- a number is in the type, below it or above
+pub place16 : (z : ℤ) → IsWord16 z ⊎ ((z <ℤ negsuc 32767) ⊎ (pos 32767 <ℤ z))
+place16 z =
+    ⊎_elim (λ low. ⊎_elim (λ high. inl (record { above = low; below = high })) (λ above. inr (inr above)) (le_or_lt z (pos 32767)))
+    (λ below. inr (inl below)) (le_or_lt (negsuc 32767) z)
+
+pub place32 : (z : ℤ) → IsWord32 z ⊎ ((z <ℤ negsuc 2147483647) ⊎ (pos 2147483647 <ℤ z))
+place32 z =
+    ⊎_elim (λ low. ⊎_elim (λ high. inl (record { above = low; below = high })) (λ above. inr (inr above)) (le_or_lt z (pos 2147483647)))
+    (λ below. inr (inl below)) (le_or_lt (negsuc 2147483647) z)
+
+not_both : (b : Bool) → b ≡ true → b ≡ false → ⊥
+not_both b holds fails = cc
+
+-- a clamp is noted exactly where it changes its number
+pub leaves16_exact : (z : ℤ) → (IsTrue (leaves16 z) → clamp16 z ≡ z → ⊥) × ((clamp16 z ≡ z → ⊥) → IsTrue (leaves16 z))
+leaves16_exact z = (
+  λ leaves same. not_both (leaves16 z) leaves (leaves16_inside z (clamp_fixed (negsuc 32767) (pos 32767) z (omega (arith, ints)) same)),
+  λ moved. ⊎_elim (λ inside. absurd (moved (clamp_same (negsuc 32767) (pos 32767) z inside))) (⊎_elim (leaves16_below z) (leaves16_above z)) (place16 z),
+)
+
+pub leaves32_exact : (z : ℤ) → (IsTrue (leaves32 z) → clamp32 z ≡ z → ⊥) × ((clamp32 z ≡ z → ⊥) → IsTrue (leaves32 z))
+leaves32_exact z = (
+  λ leaves same. not_both (leaves32 z) leaves (leaves32_inside z (clamp_fixed (negsuc 2147483647) (pos 2147483647) z (omega (arith, ints)) same)),
+  λ moved. ⊎_elim (λ inside. absurd (moved (clamp_same (negsuc 2147483647) (pos 2147483647) z inside))) (⊎_elim (leaves32_below z) (leaves32_above z)) (place32 z),
+)

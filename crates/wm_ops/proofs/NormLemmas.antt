@@ -103,3 +103,11 @@ norm_at places (pos zero) h = absurd (omega arith)
 norm_at places (pos (suc n)) h = refl
 norm_at places (negsuc zero) h = absurd (omega arith)
 norm_at places (negsuc (suc n)) h = refl
+
+-- the norm is the least shift that brings the number to the top of its type
+pub norm_least :
+    (places : ℕ) (z : ℤ) → 0 < folded z → folded z < 2 ^ (places + 1) → IsLeastShift (2 ^ places) (folded z) (norm_in places z)
+norm_least places z positive small =
+    let P : ℕ → Type 0 = λ c. IsLeastShift (2 ^ places) (folded z) c in
+    let reached : 1 * 2 ^ places ≤ folded z * 2 ^ places = mul-le-mul_right (2 ^ places) positive in
+    subst P (sym (norm_at places z positive)) (doublings_least places (2 ^ places) (folded z) (omega (arith, reached)))

@@ -1,5 +1,5 @@
 -- From the bytes of a name to what they name.
-use Rattle.std.specs.Prelude.{ℕ, List, [], ◌∷◌, Option, Some, None, if◌then◌else◌, codes}
+use Rattle.std.specs.Prelude.{ℕ, ◌≡◌, ◌⊎◌, List, [], ◌∷◌, Option, Some, None, if◌then◌else◌, codes}
 use Rattle.std.specs.Option.{option_map_or}
 use Rattle.std.specs.Str.{bytes_eq}
 use Rattle.wm_ops.specs.declared.operators.Op.{Op}
@@ -26,3 +26,11 @@ op_named bytes = if bytes_eq bytes (codes "round_fx") then Some Round else first
 -- the counted word of a name
 abbrev pub word_named : List ℕ → Option Counted
 word_named bytes = option_map_or (λ op. Some (Operator op)) (op_named bytes) (first_word other_words bytes)
+
+-- the bytes name the operator: they are its C name, or the other name of `round`
+abbrev pub Names : Op → List ℕ → Type 0
+Names op bytes = (bytes ≡ name_of op) ⊎ ((op ≡ Round) × (bytes ≡ codes "round_fx"))
+
+-- the bytes name the counted word
+abbrev pub NamesWord : Counted → List ℕ → Type 0
+NamesWord word bytes = (bytes ≡ word_name_of word) ⊎ ((word ≡ Operator Round) × (bytes ≡ codes "round_fx"))

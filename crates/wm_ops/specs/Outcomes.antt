@@ -2,6 +2,8 @@
 use Rattle.std.specs.Prelude.{ℤ, Bool, true, false, ◌||◌, ◌&&◌, not, if◌then◌else◌}
 use Rattle.wm_ops.specs.declared.operators.Op.{Op}
 use Rattle.wm_ops.specs.declared.operators.Op.TheVariants.{Add, Sub, AbsS, Negate, Mult, MultR, Shl, Shr, ShrR, LAdd, LSub, LAbs, LNegate, LMult, LMac, LMsu, LShl, LShr, LShrR, ExtractH, ExtractL, LDepositH, LDepositL, Round, MacR, MsuR, NormS, NormL, DivS, SMax, SMin, LMax, LMin, LMult0, LMac0, LMsu0}
+use Rattle.wm_ops.specs.Operators.{result_width_of}
+use Rattle.wm_ops.specs.Arguments.{HasWidth}
 use Rattle.wm_ops.specs.declared.clamping.Clamped.{Clamped}
 use Rattle.wm_ops.specs.declared.outcomes.Outcome.{Outcome}
 use Rattle.wm_ops.specs.declared.outcomes.Outcome.TheVariants.{Value, OutOfDomain}
@@ -153,3 +155,8 @@ outcome_of op a b c =
 -- the operator fails at its arguments: it saturates, or they are outside its domain
 abbrev pub fails_of : Op → ℤ → ℤ → ℤ → Bool
 fails_of op a b c = not (in_domain op a b) || saturates_of op a b c
+
+-- the value of an outcome lies in the type of the operator's result
+abbrev pub OutcomeFits : Op → Outcome → Type 0
+OutcomeFits op (Value value saturates flag) = HasWidth (result_width_of op) value
+OutcomeFits op OutOfDomain = Unit {0}

@@ -1,5 +1,6 @@
 -- The halves of a number of 32 bits, numbers put into a half, and rounding to the upper half.
-use Rattle.std.specs.Prelude.{ℤ, pos, ◌+ℤ◌, ◌-ℤ◌, ◌*ℤ◌}
+use Rattle.std.specs.Prelude.{ℤ, ◌≡◌, pos, ◌+ℤ◌, ◌-ℤ◌, ◌*ℤ◌}
+use Rattle.wm_numbers.specs.Within.{IsWord16}
 use Rattle.wm_numbers.specs.Floor.{floor_shift}
 use Rattle.wm_ops.specs.declared.clamping.Clamped.{Clamped}
 use Rattle.wm_ops.specs.Clamping.{exact, and_then}
@@ -31,3 +32,9 @@ mac_r_of a b c = and_then (l_mac_of a b c) round_of
 
 abbrev pub msu_r_of : ℤ → ℤ → ℤ → Clamped
 msu_r_of a b c = and_then (l_msu_of a b c) round_of
+
+-- w is the signed number of 16 bits that differs from z by a multiple of 65536
+pub record IsLowHalf (z w : ℤ) : Type 0 where
+  pub within : IsWord16 w
+  pub multiple : ℤ
+  pub differs : z ≡ w +ℤ multiple *ℤ pos 65536

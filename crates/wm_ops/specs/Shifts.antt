@@ -1,5 +1,5 @@
 -- Shifts by a count of either sign: to the left with a clamp, to the right rounded down or to the nearest.
-use Rattle.std.specs.Prelude.{ℕ, zero, suc, ℤ, pos, negsuc, ◌+ℤ◌, ◌*ℤ◌, neg_ℤ, ◌^◌}
+use Rattle.std.specs.Prelude.{ℕ, zero, suc, ℤ, pos, negsuc, ◌+ℤ◌, ◌*ℤ◌, ◌≤ℤ◌, ◌<ℤ◌, neg_ℤ, ◌^◌}
 use Rattle.wm_numbers.specs.Floor.{floor_shift}
 use Rattle.wm_ops.specs.declared.clamping.Clamped.{Clamped}
 use Rattle.wm_ops.specs.Clamping.{exact, to16, to32}
@@ -37,3 +37,8 @@ abbrev pub l_shr_r_of : ℤ → ℤ → Clamped
 l_shr_r_of a (pos zero) = l_shl_of a (pos 0)
 l_shr_r_of a (pos (suc n)) = exact (rounded_shift a n)
 l_shr_r_of a (negsuc n) = l_shl_of a (pos (suc n))
+
+-- q is the nearest whole number to z / 2 ^ n, and the upper one where two are: it is the floor of z / 2 ^ n + 1/2
+pub record IsRounded (z : ℤ) (n : ℕ) (q : ℤ) : Type 0 where
+  pub below : (pos 2 *ℤ (q *ℤ pos (2 ^ n))) ≤ℤ (pos 2 *ℤ z +ℤ pos (2 ^ n))
+  pub above : (pos 2 *ℤ z +ℤ pos (2 ^ n)) <ℤ (pos 2 *ℤ (q *ℤ pos (2 ^ n)) +ℤ pos 2 *ℤ pos (2 ^ n))

@@ -6,6 +6,7 @@ mod choices;
 mod clamping;
 mod division;
 mod formulas;
+mod laws;
 mod lists;
 mod memory;
 mod names;
@@ -21,6 +22,7 @@ mod sums;
 mod tables;
 mod words;
 
+pub use laws::operator_laws;
 pub use lists::List;
 pub use memory::NoMemory;
 pub use names::{by_name, counted_by_name};

@@ -1,5 +1,6 @@
 // The operators with what the row list tells of each: its number, name and widths.
-ghost use Rattle.std.specs.Prelude.{◌≡◌, ◌<◌, ◌≤◌, slice_get, Some};
+ghost use Rattle.std.specs.Prelude.{◌≡◌, ◌<◌, ◌≤◌, ◌↔◌, slice_get, Some};
+ghost use Rattle.wm_ops.specs.declared.operators.Op as one;
 ghost use Rattle.wm_ops.specs.Operators.{number_of, op_numbered, name_of, arg_widths_of, arity_of, result_width_of};
 
 use crate::operator_rows;
@@ -112,6 +113,7 @@ pub fn op_number(op: Op) -> usize
 /// The operator at this place of the row list; None exactly past its end.
 pub fn op_at(number: usize) -> Option<Op>
     ensures operator { result ≡ op_numbered number }
+    ensures exact { (op : one.Op) → (result ≡ Some op) ↔ (number_of op ≡ number) }
 {
     item_at(&ALL, number).copied()
 }
@@ -132,6 +134,7 @@ fn arg_widths(op: Op) -> &'static [Width]
 /// How many arguments the operator takes, from 1 to 3.
 pub fn arity(op: Op) -> usize
     ensures arity { result ≡ arity_of op }
+    ensures within { (1 ≤ result) × (result ≤ 3) }
 {
     arg_widths(op).len()
 }

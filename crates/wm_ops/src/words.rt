@@ -1,5 +1,6 @@
 // The words that a complexity count counts: the operators, five calls and seven control words.
-ghost use Rattle.std.specs.Prelude.{◌≡◌, ◌+◌, ◌<◌};
+ghost use Rattle.std.specs.Prelude.{◌≡◌, ◌<◌, ◌↔◌, Some};
+ghost use Rattle.wm_ops.specs.declared.words.Counted as other;
 ghost use Rattle.wm_ops.specs.Words.{word_number_of, word_numbered, word_name_of, call_name_of, control_name_of};
 
 use crate::operators::{OPERATORS, Op, name, op_at, op_number};
@@ -69,6 +70,7 @@ pub fn counted_number(word: Counted) -> usize
 /// The counted word at this place; None exactly past the last.
 pub fn counted_at(number: usize) -> Option<Counted>
     ensures word { result ≡ word_numbered number }
+    ensures exact { (word : other.Counted) → (result ≡ Some word) ↔ (word_number_of word ≡ number) }
 {
     if number < OPERATORS {
         op_at(number).map(|op| Counted::Operator(op))
