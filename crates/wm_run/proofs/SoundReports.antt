@@ -1,15 +1,14 @@
 -- Where a report is printed, the files were read so that they give its program, and its findings are sound.
-use Rattle.std.proofs.Common.{◌≡◌, ℕ, List, Option, Some, None, ◌⊎◌, inl, inr, refl, sym, subst, ◌∙◌, arith}
+use Rattle.std.proofs.Common.{◌≡◌, ℕ, List, Option, Some, None, ◌⊎◌, inl, inr, refl, subst, arith}
 use Rattle.std.specs.Prelude.{MatchOption}
-use Rattle.wm_files.specs.Outside.{Held, grown}
 use Rattle.wm_run.specs.PlainProgram.{Program}
 use Rattle.wm_run.specs.PlainMeaning.{all_ones}
 use Rattle.wm_run.specs.PlainAnalysis.{Findings, findings}
 use Rattle.wm_run.specs.Grammar.{program_of}
 use Rattle.wm_run.specs.Specification.{source_name}
 use Rattle.wm_run.specs.Report.{report_text}
-use Rattle.wm_run.specs.Decision.{Decided, Report, SourceNotYet, SpecificationNotYet, ReadFailed, Words, Read, Bytes, TooLong, Failed, ReadGives, with_program, with_source, FromSource, AfterSpecification, FromSpecification, LeadsTo, prove_name, status_of, text_of}
-use Rattle.wm_run.specs.Ends.{Call, Decides, Grew, PutAnswer, PutWhole, ReadsProgram, SoundReport}
+use Rattle.wm_run.specs.Decision.{Decided, Report, SourceNotYet, SpecificationNotYet, ReadFailed, Words, Read, Bytes, TooLong, Failed, ReadGives, with_program, with_source, FromSource, AfterSpecification, FromSpecification, prove_name, status_of, text_of}
+use Rattle.wm_run.specs.Ends.{Call, Decides, Grew, PutAnswer, ReadsProgram, SoundReport}
 use Rattle.wm_run.proofs.PlainLaws.{plain_sound}
 
 -- the specification was read, and names this file

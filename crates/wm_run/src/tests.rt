@@ -204,7 +204,7 @@ fn specifications_not_of_the_form(rt: HostRuntime) -> Result<(), Fail> {
 /// A source of the form with this many bytes, all but the last few of them spaces.
 fn padded(alloc: Global, size: usize) -> Result<Vec<u8>, Fail> {
     let source = b"void frame(void) { }".as_slice();
-    let mut bytes = vec![in alloc; b' '; size - source.len()]?;
+    let mut bytes = vec![in alloc; b' '; size.saturating_sub(source.len())]?;
     bytes.extend_from_slice(source)?;
     Ok(bytes)
 }
