@@ -32,16 +32,16 @@ at_program call file file' program found source (Some program') named given is s
     let same_program : program' ≡ program = cc in
     let own : found ≡ findings program' all_ones = cc in
     let read : ReadsProgram call file' program' =
-        record {
-          name = named.name;
-          is_prove = named.is_prove;
-          specification = named.specification;
-          specification_given = named.given;
-          names_source = named.names;
-          source = source;
-          source_given = given;
-          is_program = is;
-        } in
+    record {
+      name = named.name;
+      is_prove = named.is_prove;
+      specification = named.specification;
+      specification_given = named.given;
+      names_source = named.names;
+      source = source;
+      source_given = given;
+      is_program = is;
+    } in
     let by_file : ReadsProgram call file program' = subst (λ (f : List ℕ). ReadsProgram call f program') same_file read in
     subst (λ (p : Program). Found call file p found) same_program (by_file, own)
 
