@@ -8,6 +8,8 @@ mod plain;
 mod reader;
 mod report;
 mod specification;
+#[cfg(test)]
+mod tests;
 mod tokens;
 mod unread;
 

@@ -2,6 +2,9 @@
 //! with the status that the call gives.
 #![tactic(auto)]
 
+mod beside;
+
+use beside::Beside;
 use std::alloc::Global;
 use std::process::ExitCode;
 use std::rt::Env;
@@ -19,18 +22,16 @@ fn words_of<R: Env + Alloc<A = Global>>(rt: &R) -> io::Result<Vec<String>> {
 
 fn main(rt: HostRuntime) -> ExitCode {
     let alloc = rt.alloc();
-    let mut files = RealFiles::new(&rt);
     let mut out = RealOut::new(&rt);
-    let status = match words_of(&rt) {
-        Ok(words) => wm_run::run(alloc, &words, &mut files, &mut out),
+    let words = match words_of(&rt) {
+        Ok(words) => words,
         // A word that is not text is none of the command's, so it answers as to no words.
-        Err(error) if error.kind() == io::ErrorKind::InvalidData => {
-            wm_run::run(alloc, &[], &mut files, &mut out)
-        }
+        Err(error) if error.kind() == io::ErrorKind::InvalidData => Vec::new(alloc),
         Err(_) => {
             let _ = out.put(b"fault 7 memory\n");
-            7
+            return ExitCode::from(7);
         }
     };
-    ExitCode::from(status)
+    let mut files = Beside::new(alloc, RealFiles::new(&rt), &words);
+    ExitCode::from(wm_run::run(alloc, &words, &mut files, &mut out))
 }
