@@ -230,3 +230,40 @@ pub fn verdicts_of(
     }
     Ok(found)
 }
+
+#[cfg(test)]
+mod tests {
+    use super::{Bounds, Failing};
+    use crate::plain::Operator;
+
+    fn is_at(found: Option<Failing>, first: i64, second: i64) -> bool {
+        match found {
+            None => false,
+            Some(failing) => failing.first == first && failing.second == second,
+        }
+    }
+
+    #[test]
+    fn the_least_failing_operands_of_a_box(rt: HostRuntime) {
+        let all = Bounds {
+            low: -32768,
+            high: 32767,
+        };
+        let one = Bounds { low: 1, high: 1 };
+        let near_the_end = Bounds {
+            low: 32760,
+            high: 32765,
+        };
+        let ten = Bounds { low: 0, high: 10 };
+        assert!(rt; is_at(Operator::Add.least_failing(all, one), 32767, 1));
+        assert!(rt; is_at(Operator::Add.least_failing(all, all), -32768, -32768));
+        assert!(rt; is_at(Operator::Add.least_failing(ten, near_the_end), 3, 32765));
+        assert!(rt; is_at(Operator::Add.least_failing(one, all), 1, 32767));
+        assert!(rt; Operator::Add.least_failing(ten, ten).is_none());
+        assert!(rt; is_at(Operator::Sub.least_failing(all, all), -32768, 1));
+        assert!(rt; is_at(Operator::Sub.least_failing(all, one), -32768, 1));
+        assert!(rt; is_at(Operator::Sub.least_failing(one, all), 1, -32768));
+        assert!(rt; Operator::Sub.least_failing(ten, all).is_some());
+        assert!(rt; Operator::Sub.least_failing(near_the_end, ten).is_none());
+    }
+}
