@@ -12,7 +12,7 @@ pub struct Identifier {
 
 /// A type of the profile. `Flag` and `int` have 32 bits.
 #[derive(Clone, Copy, Debug, PartialEq, Eq)]
-pub enum Type {
+pub enum BaseType {
     Word16,
     Word32,
     Flag,
@@ -150,7 +150,7 @@ pub enum Expr {
     /// `(type) operand`; it begins at the parenthesis.
     Cast {
         at: Position,
-        to: Type,
+        to: BaseType,
         operand: Boxed<Expr>,
     },
     Number {

@@ -9,8 +9,8 @@ mod token;
 mod unit;
 
 pub use expression::{
-    Call, Chain, EqualityMark, Expr, Identifier, MemberMark, Part, ProductMark, RelationMark, Spot,
-    SpotKind, SumMark, Type, UnaryMark,
+    BaseType, Call, Chain, EqualityMark, Expr, Identifier, MemberMark, Part, ProductMark,
+    RelationMark, Spot, SpotKind, SumMark, UnaryMark,
 };
 pub use name::Name;
 pub use place::{Place, Position};

@@ -1,5 +1,5 @@
 // Declarations and statements.
-use crate::expression::{Call, Expr, Identifier, Spot, Type};
+use crate::expression::{BaseType, Call, Expr, Identifier, Spot};
 use crate::place::Position;
 use sqlite_items::{Boxed, Items};
 
@@ -50,7 +50,7 @@ pub struct Declaration {
     /// The first token.
     pub at: Position,
     pub words: Words,
-    pub base: Type,
+    pub base: BaseType,
     pub declarators: Items<Declarator>,
 }
 

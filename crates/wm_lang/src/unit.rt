@@ -1,5 +1,5 @@
 // A unit: what all source files of a program hold together.
-use crate::expression::{Expr, Identifier, Type};
+use crate::expression::{BaseType, Expr, Identifier};
 use crate::place::Position;
 use crate::statement::{Block, Declaration, Statement, Words};
 use sqlite_items::Items;
@@ -9,15 +9,15 @@ use wm_ops::List;
 #[derive(Debug, Drop)]
 pub enum ParameterKind {
     /// `type v`
-    Scalar(Type),
+    Scalar(BaseType),
     /// `type a[e]` and `type a[]`
     Array {
-        element: Type,
+        element: BaseType,
         bracket: Position,
         length: Option<Expr>,
     },
     /// `type *p`
-    Pointer(Type),
+    Pointer(BaseType),
     /// `struct S *p`
     Struct(Identifier),
 }
@@ -39,7 +39,7 @@ pub struct Function {
     pub at: Position,
     pub words: Words,
     /// None for `void`.
-    pub result: Option<Type>,
+    pub result: Option<BaseType>,
     pub name: Identifier,
     /// None for `()` and `(void)`.
     pub parameters: Items<Parameter>,
@@ -64,7 +64,7 @@ pub enum MemberDeclarator {
 pub struct Members {
     /// The first token.
     pub at: Position,
-    pub base: Type,
+    pub base: BaseType,
     pub declarators: Items<MemberDeclarator>,
 }
 
