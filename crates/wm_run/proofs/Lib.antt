@@ -10,3 +10,4 @@ mod ReportFacts
 mod Widening
 mod Puts
 mod SoundReports
+mod Told

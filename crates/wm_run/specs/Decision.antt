@@ -1,5 +1,5 @@
 -- What a call comes to: a report or one fault, with its status and its text, from the words and from what the reads give.
-use Rattle.std.specs.Prelude.{◌≡◌, ◌⊎◌, ℕ, ◌<◌, ◌≤◌, List, [], ◌∷◌, ◌++◌, length, codes, if◌then◌else◌, Option, Some, None, IfSome, IsSomeAnd, MatchOption, ⊤}
+use Rattle.std.specs.Prelude.{◌≡◌, ◌⊎◌, ℕ, ◌<◌, ◌≤◌, List, [], ◌∷◌, ◌++◌, length, codes, nat_lt, if◌then◌else◌, Option, Some, None, IfSome, IsSomeAnd, MatchOption, ⊤}
 use Rattle.std.specs.FinMap.{get}
 use Rattle.std.specs.Str.{bytes_eq}
 use Rattle.wm_files.specs.Outside.{Held, Rose}
@@ -119,3 +119,30 @@ FromSpecification held old new name d = (read : Read) × ReadGives held old new 
 -- the words, what is held, and the count of faults before and after the call lead to this
 abbrev pub LeadsTo : List (List ℕ) → Option Held → ℕ → ℕ → Decided → Type 0
 LeadsTo words held old new d = MatchOption (prove_name words) (d ≡ Words) (λ name. FromSpecification held old new name d)
+
+-- Files that tell what they hold, and do not fail, leave one decision.
+
+abbrev pub told_read : Option (List ℕ) → Read
+told_read None = Failed
+told_read (Some bytes) = if nat_lt limit (length bytes) then TooLong else Bytes bytes
+
+-- what is read under a name
+abbrev pub read_in : Held → List ℕ → Read
+read_in pairs name = told_read (get pairs name)
+
+abbrev pub told_source : Held → Option (List ℕ) → Decided
+told_source pairs None = SpecificationNotYet
+told_source pairs (Some file) = with_source file (read_in pairs file)
+
+abbrev pub told_specification : Held → List ℕ → Read → Decided
+told_specification pairs name (Bytes specification) = told_source pairs (source_name specification)
+told_specification pairs name TooLong = SpecificationNotYet
+told_specification pairs name Failed = ReadFailed name
+
+abbrev pub told_words : Held → Option (List ℕ) → Decided
+told_words pairs None = Words
+told_words pairs (Some name) = told_specification pairs name (read_in pairs name)
+
+-- what a call with these words comes to over files that hold these pairs
+unfoldable pub decision_of : List (List ℕ) → Held → Decided
+decision_of words pairs = told_words pairs (prove_name words)

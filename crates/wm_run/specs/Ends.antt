@@ -1,5 +1,5 @@
 -- How a call ends: what its status and the sink say, whatever the world outside does.
-use Rattle.std.specs.Prelude.{◌≡◌, ◌⊎◌, ℕ, List, take, codes, Option, Some}
+use Rattle.std.specs.Prelude.{◌≡◌, ◌⊎◌, ℕ, List, take, codes, Option, Some, IfSome}
 use Rattle.wm_files.specs.Outside.{Held, Rose, grown}
 use Rattle.wm_run.specs.PlainProgram.{Program}
 use Rattle.wm_run.specs.PlainMeaning.{all_ones}
@@ -8,7 +8,7 @@ use Rattle.wm_run.specs.PlainSound.{Sound}
 use Rattle.wm_run.specs.Grammar.{program_of}
 use Rattle.wm_run.specs.Specification.{source_name}
 use Rattle.wm_run.specs.Report.{report_text}
-use Rattle.wm_run.specs.Decision.{Decided, Bytes, ReadGives, LeadsTo, status_of, text_of, prove_name}
+use Rattle.wm_run.specs.Decision.{Decided, Bytes, ReadGives, LeadsTo, status_of, text_of, prove_name, decision_of}
 
 -- what a call is given, and what is seen of the world outside before and after it
 pub record Call : Type 0 where
@@ -65,15 +65,25 @@ pub record PutPrefix (text : List ℕ) (before after : Option (List ℕ)) (old n
 abbrev pub PutAnswer : ℕ → List ℕ → Option (List ℕ) → Option (List ℕ) → ℕ → ℕ → ℕ → Type 0
 PutAnswer wanted text before after old new status = PutWhole wanted text before after status ⊎ (PutPrefix text before after old new status ⊎ OnlyMemory before after status)
 
+-- what became of the text of a decision
+abbrev pub Put : Call → Decided → ℕ → Type 0
+Put call decision status =
+    PutAnswer (status_of decision) (text_of decision) call.written_before call.written_after call.sink_faults_before call.sink_faults_after status
+
 -- A decision is reached, and its text put whole, or a prefix of it where the sink failed, or memory ran out in the put.
-pub record Decidedly (call : Call) (status : ℕ) : Type 0 where
+pub record ByDecision (call : Call) (status : ℕ) : Type 0 where
   pub decision : Decided
   pub decides : Decides call decision
-  pub put : PutAnswer (status_of decision) (text_of decision) call.written_before call.written_after call.sink_faults_before call.sink_faults_after status
+  pub put : Put call decision status
 
 -- how each call ends: by a decision, or by want of memory before there is one
 abbrev pub Ends : Call → ℕ → Type 0
-Ends call status = Decidedly call status ⊎ OnlyMemory call.written_before call.written_after status
+Ends call status = ByDecision call status ⊎ OnlyMemory call.written_before call.written_after status
+
+-- how each call ends over files that tell what they hold and do not fail: by the one decision that they leave
+abbrev pub EndsAsTold : Call → ℕ → Type 0
+EndsAsTold call status =
+    IfSome call.held (λ pairs. Rose call.file_faults_before call.file_faults_after ⊎ Put call (decision_of call.words pairs) status)
 
 -- the files were read so that they give this source file and this program
 pub record ReadsProgram (call : Call) (file : List ℕ) (program : Program) : Type 0 where

@@ -2,7 +2,7 @@
 
 ghost use Rattle.std.specs.Prelude.{◌≡◌, ◌≤◌, ◌⊎◌, map, string_bytes};
 ghost use Rattle.wm_run.specs.Decision.{IsOwn, decided, status_of, text_of};
-ghost use Rattle.wm_run.specs.Ends.{call_of, Ends, SoundReport, OnlyMemory, PutAnswer};
+ghost use Rattle.wm_run.specs.Ends.{call_of, Ends, EndsAsTold, SoundReport, OnlyMemory, PutAnswer};
 
 use crate::decision::{Decision, decide};
 use std::alloc::Global;
@@ -48,8 +48,10 @@ fn put_decision<S: Sink>(alloc: Global, decision: &Decision, out: &mut S) -> u8
 /// where the specification is too long or not of the plain form, 5 where a file could not be read, 7 where memory ran out,
 /// 8 where the words are none that are known. 6: the sink failed, and a prefix of the text was put. No file is written.
 pub fn run<F: Files, S: Sink>(alloc: Global, words: &[String], files: &mut F, out: &mut S) -> u8
-    // The words, what the files hold and the counts of faults lead to a decision, which has the status and the text.
+    // The words, what the files hold and the count of their faults lead to a decision, which has the status and the text.
     ensures answers { Ends (call_of (map string_bytes words.now) (F.held files.old) (F.faults files.old) (F.faults files.new) (S.written out.old) (S.written out.new) (S.faults out.old) (S.faults out.new)) result }
+    // Over files that tell what they hold and do not fail, it is the one decision that the words and these leave.
+    ensures told { EndsAsTold (call_of (map string_bytes words.now) (F.held files.old) (F.faults files.old) (F.faults files.new) (S.written out.old) (S.written out.new) (S.faults out.old) (S.faults out.new)) result }
     // A report is that of the findings of the program that the files give, and these are sound.
     ensures sound_plain_form { (result ≡ 0) ⊎ (result ≡ 1) → SoundReport (call_of (map string_bytes words.now) (F.held files.old) (F.faults files.old) (F.faults files.new) (S.written out.old) (S.written out.new) (S.faults out.old) (S.faults out.new)) }
     ensures held { F.held files.new ≡ F.held files.old }
