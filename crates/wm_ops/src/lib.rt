@@ -20,6 +20,8 @@ mod search;
 mod shifts;
 mod sums;
 mod tables;
+#[cfg(test)]
+mod tests;
 mod words;
 
 pub use laws::operator_laws;

@@ -59,8 +59,8 @@ pub(crate) fn l_mac(a: i64, b: i64, c: i64) -> Clamped
     ensures formula { result ≡ l_mac_of a b c }
     ensures within { IsWord32 result.value }
 {
-    let product = l_mult(b, c);
-    product.then(l_add(a, product.value))
+    let doubled = l_mult(b, c);
+    doubled.then(l_add(a, doubled.value))
 }
 
 pub(crate) fn l_msu(a: i64, b: i64, c: i64) -> Clamped
@@ -70,8 +70,8 @@ pub(crate) fn l_msu(a: i64, b: i64, c: i64) -> Clamped
     ensures formula { result ≡ l_msu_of a b c }
     ensures within { IsWord32 result.value }
 {
-    let product = l_mult(b, c);
-    product.then(l_sub(a, product.value))
+    let doubled = l_mult(b, c);
+    doubled.then(l_sub(a, doubled.value))
 }
 
 pub(crate) fn l_mac0(a: i64, b: i64, c: i64) -> Clamped
