@@ -1,5 +1,5 @@
 //! The files of the system as a command line means them: the words name files from the working folder, and the names in a
-//! specification stand for files beside it.
+//! specification stand for files beside it, but for those that begin at the root.
 
 ghost use Rattle.std.specs.Prelude.{◌≡◌, None, ◌++◌, IfOk};
 
@@ -38,7 +38,7 @@ impl<'w, R: rt::Files> Beside<'w, R> {
 
     /// The path of a name, from the working folder.
     fn path_of(&self, name: &[u8]) -> Result<Vec<u8>, AllocError> {
-        if self.is_word(name) {
+        if self.is_word(name) || name.first() == Some(&b'/') {
             return Vec::from_slice(self.alloc, name);
         }
         let mut path = Vec::from_slice(self.alloc, self.folder)?;
