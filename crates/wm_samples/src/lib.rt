@@ -1,0 +1,12 @@
+//! Sample files: the numbers of each frame, one for each input cell.
+#![tactic(auto)]
+
+mod cells;
+mod fault;
+mod numbers;
+mod read;
+#[cfg(test)]
+mod tests;
+
+pub use fault::SampleFault;
+pub use read::frames;
