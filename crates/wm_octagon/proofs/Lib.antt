@@ -1,0 +1,9 @@
+pub mod Attained
+pub mod Filled
+pub mod Closings
+pub mod Least
+pub mod Moves
+pub mod Rows
+pub mod Small
+pub mod Tables
+pub mod Tight

@@ -1,0 +1,42 @@
+-- Changes of all bounds at once, and the points that they are to leave.
+use Rattle.std.specs.Prelude.{ℕ, ◌≡◌, ◌≢◌, ◌+◌, ◌*◌, ◌/◌, ◌<◌, ◌⊎◌, nat_eq, Bool, ◌||◌, ℤ, pos, neg_ℤ, ◌+ℤ◌, ◌-ℤ◌, List, length, slice_index_or, if◌then◌else◌}
+use Rattle.wm_numbers.specs.Within.{Within}
+use Rattle.wm_octagon.specs.Layout.{opposite}
+use Rattle.wm_octagon.specs.Points.{side_value, IsPoint}
+
+-- two different sides that are known apart from each other alone
+abbrev pub apart : (ℕ → ℤ) → ℕ → ℕ → ℤ
+apart tops k l = if nat_eq k l then pos 0 else tops (opposite k) +ℤ tops l
+
+-- the bounds after variable v is set free: `tops` has the greatest value of each side
+abbrev pub loosened : ℕ → (ℕ → ℤ) → (ℕ → ℕ → ℤ) → ℕ → ℕ → ℤ
+loosened v tops m k l = if nat_eq (k / 2) v || nat_eq (l / 2) v then apart tops k l else m k l
+
+-- the old side that side k is measured by, where variable v gets the value of side s
+abbrev pub source_of : ℕ → ℕ → ℕ → ℕ
+source_of v s k = if nat_eq k (2 * v) then s else (if nat_eq k (2 * v + 1) then opposite s else k)
+
+-- the most that side k then differs from that old side, where v gets more by a number from `low` to `high`
+abbrev pub rise : ℕ → ℤ → ℤ → ℕ → ℤ
+rise v low high k = if nat_eq k (2 * v) then high else (if nat_eq k (2 * v + 1) then neg_ℤ low else pos 0)
+
+-- the bounds after variable v got the value of side s and a number from `low` to `high`
+abbrev pub assigned : ℕ → ℕ → ℤ → ℤ → (ℕ → ℕ → ℤ) → ℕ → ℕ → ℤ
+assigned v s low high m k l =
+    if nat_eq k l then pos 0 else m (source_of v s k) (source_of v s l) +ℤ (rise v low high (opposite k) +ℤ rise v low high l)
+
+-- x is a point of the list, but for variable v, which has any number from `low` to `high`
+pub record Forgotten (n : ℕ) (xs : List ℤ) (v : ℕ) (low high : ℤ) (x : ℕ → ℤ) : Type 0 where
+  pub was : ℕ → ℤ
+  pub point : IsPoint n xs was
+  pub others : (w : ℕ) → w ≢ v → x w ≡ was w
+  pub value : Within low high (x v)
+
+-- x is a point of the list, but for variable v, which has the value of side s there and a number from `low` to `high`
+pub record Assigned (n : ℕ) (xs : List ℤ) (v s : ℕ) (low high : ℤ) (x : ℕ → ℤ) : Type 0 where
+  pub was : ℕ → ℤ
+  pub point : IsPoint n xs was
+  pub others : (w : ℕ) → w ≢ v → x w ≡ was w
+  pub more : ℤ
+  pub more_in : Within low high more
+  pub value : x v ≡ side_value was s +ℤ more

@@ -1,0 +1,7 @@
+pub mod Changes
+pub mod Closing
+pub mod HalfTable
+pub mod Layout
+pub mod Medium
+pub mod Points
+pub mod Ways

@@ -1,0 +1,174 @@
+//! One more bound in a half table, brought up to date in a single pass over the list.
+
+ghost use Rattle.std.specs.Prelude.{◌≡◌, ℕ, ◌*◌, ◌%◌, ◌<◌, ◌≤◌, ℤ, ◌+ℤ◌};
+ghost use Rattle.std.specs.Int.{int_min};
+ghost use Rattle.wm_octagon.specs.Layout.{opposite, bound};
+ghost use Rattle.wm_octagon.specs.Closing.{half_of, top, through, with_bound};
+ghost use Rattle.wm_octagon.specs.HalfTable.{IsSmall};
+ghost use Rattle.wm_octagon.specs.Medium.{IsMedium, IsRound, Filled};
+ghost use Rattle.wm_octagon.specs.Ways.{at, AreRows, AreWays, AreSized, least_way};
+
+use crate::half::{Half, halved};
+use crate::layout::{Change, MOST_SIDES, opposite};
+
+/// What one more bound of side `j` less side `i` needs to change each bound: the rows of `j` and of `-i`, the ways from
+/// each side that end with the new bound in `j` or in `-i`, and the greatest value that is left to each side.
+#[derive(Drop)]
+pub(crate) struct Closing {
+    from_j: [i64; MOST_SIDES],
+    from_i: [i64; MOST_SIDES],
+    to_j: [i64; MOST_SIDES],
+    to_i: [i64; MOST_SIDES],
+    tops: [i64; MOST_SIDES],
+    ghost sized: { AreSized from_j from_i to_j to_i tops },
+}
+
+impl Change for Closing {
+    ghost sides = { λ _. 64 };
+
+    ghost value = { λ s k l b. int_min (least_way s.to_j s.from_j s.to_i s.from_i b k l) (at s.tops (opposite k) +ℤ at s.tops l) };
+
+    #[inline(always)]
+    fn changed(&self, k: usize, l: usize, bound: i64) -> i64 {
+        let by_j = sum(self.to_j[k], self.from_j[l]);
+        let by_i = sum(self.to_i[k], self.from_i[l]);
+        let alone = sum(self.tops[opposite(k)], self.tops[l]);
+        lesser(least(bound, by_j, by_i), alone)
+    }
+}
+
+impl Closing {
+    /// What the bound 'side `j` less side `i` is at most `c`' changes in `half`.
+    #[inline(always)]
+    pub(crate) fn new(half: &Half, i: usize, j: usize, c: i64) -> Closing
+        requires row { i < 2 * half.now.variables }
+        requires column { j < 2 * half.now.variables }
+        requires c { IsSmall c }
+        ensures rows { AreRows half.now.variables half.now.bounds i j result.from_j result.from_i }
+        ensures ways { AreWays half.now.variables half.now.bounds i j c result.to_j result.to_i }
+        ensures tops { Filled IsMedium (top (with_bound (bound half.now.bounds) i j c)) (2 * half.now.variables) result.tops }
+    {
+        let sides = half.sides();
+        let from_j = half.row(j);
+        let from_i = half.row(opposite(i));
+        let to_j = ways(&from_i, &from_j, c, round_trip(c, half.bound(opposite(i), i)), sides);
+        let to_i = ways(&from_j, &from_i, c, round_trip(c, half.bound(j, opposite(j))), sides);
+        let tops = new_tops(half, &to_j, &from_j, &to_i, &from_i);
+        Closing {
+            from_j,
+            from_i,
+            to_j,
+            to_i,
+            tops,
+        }
+    }
+}
+
+#[inline(always)]
+fn sum(a: i64, b: i64) -> i64
+    requires a { IsMedium a }
+    requires b { IsMedium b }
+    ensures { result ≡ a +ℤ b }
+{
+    a + b
+}
+
+/// The sum of two small numbers.
+#[inline(always)]
+pub(crate) fn plus(a: i64, b: i64) -> i64
+    requires a { IsSmall a }
+    requires b { IsSmall b }
+    ensures { result ≡ a +ℤ b }
+{
+    a + b
+}
+
+#[inline(always)]
+fn lesser(a: i64, b: i64) -> i64
+    ensures { result ≡ int_min a b }
+{
+    if b < a { b } else { a }
+}
+
+#[inline(always)]
+fn least(a: i64, b: i64, c: i64) -> i64
+    ensures { result ≡ int_min a (int_min b c) }
+{
+    lesser(a, lesser(b, c))
+}
+
+// what it costs to use the bound `c` twice, with `bound` between
+#[inline(always)]
+fn round_trip(c: i64, bound: i64) -> i64
+    requires c { IsSmall c }
+    requires bound { IsSmall bound }
+    ensures value { result ≡ c +ℤ c +ℤ bound }
+    ensures sized { IsRound result }
+{
+    c + c + bound
+}
+
+// the lesser of two ways that end with the new bound `c`: the one goes on from `near`, the other from `far` and round
+#[inline(always)]
+fn way(near: i64, far: i64, c: i64, around: i64) -> i64
+    requires near { IsSmall near }
+    requires far { IsSmall far }
+    requires c { IsSmall c }
+    requires around { IsRound around }
+    ensures value { result ≡ int_min (near +ℤ c) (far +ℤ around) }
+    ensures sized { IsMedium result }
+{
+    lesser(near + c, far + around)
+}
+
+/// The bounds of one side less each other by way of the new bound `c`: once, or after a way round that costs `around`.
+#[inline(always)]
+fn ways(near: &[i64; MOST_SIDES], far: &[i64; MOST_SIDES], c: i64, around: i64, sides: usize) -> [i64; MOST_SIDES]
+    requires few { sides ≤ 64 }
+    requires even { sides % 2 ≡ 0 }
+    requires near { (k : ℕ) → IsSmall (at near.now k) }
+    requires far { (k : ℕ) → IsSmall (at far.now k) }
+    requires c { IsSmall c }
+    requires around { IsRound around }
+    ensures value { Filled IsMedium (through (at near.now) (at far.now) around c) sides result }
+{
+    let mut ways = [0; MOST_SIDES];
+    for k in 0..sides {
+        let other = opposite(k);
+        ways[k] = way(near[other], far[other], c, around);
+    }
+    ways
+}
+
+// half of the least of an old bound and two ways, rounded down
+#[inline(always)]
+fn half_least(bound: i64, to_j: i64, from_j: i64, to_i: i64, from_i: i64) -> i64
+    requires bound { IsSmall bound }
+    requires to_j { IsMedium to_j }
+    requires from_j { IsSmall from_j }
+    requires to_i { IsMedium to_i }
+    requires from_i { IsSmall from_i }
+    ensures value { result ≡ half_of (int_min bound (int_min (to_j +ℤ from_j) (to_i +ℤ from_i))) }
+    ensures sized { IsMedium result }
+{
+    halved(least(bound, to_j + from_j, to_i + from_i))
+}
+
+/// The greatest value that the old bounds and the ways by the new one leave each side.
+#[inline(always)]
+fn new_tops(half: &Half, to_j: &[i64; MOST_SIDES], from_j: &[i64; MOST_SIDES], to_i: &[i64; MOST_SIDES], from_i: &[i64; MOST_SIDES]) -> [i64; MOST_SIDES]
+    requires to_j { (k : ℕ) → IsMedium (at to_j.now k) }
+    requires from_j { (k : ℕ) → IsSmall (at from_j.now k) }
+    requires to_i { (k : ℕ) → IsMedium (at to_i.now k) }
+    requires from_i { (k : ℕ) → IsSmall (at from_i.now k) }
+    ensures value { Filled IsMedium (λ k. half_of (least_way to_j.now from_j.now to_i.now from_i.now (bound half.now.bounds (opposite k) k) (opposite k) k)) (2 * half.now.variables) result }
+{
+    let sides = half.sides();
+    let mut tops = [0; MOST_SIDES];
+    for k in 0..sides {
+        let other = opposite(k);
+        let old = half.bound(other, k);
+        tops[k] = half_least(old, to_j[other], from_j[k], to_i[other], from_i[k]);
+    }
+    tops
+}

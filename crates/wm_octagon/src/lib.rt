@@ -1,0 +1,9 @@
+//! Integer octagons: bounds on the variables, and on the sums and the differences of two variables, that are kept
+//! so tight that an integer point attains each.
+#![tactic(auto)]
+
+mod closing;
+mod half;
+mod layout;
+
+pub use half::Half;
