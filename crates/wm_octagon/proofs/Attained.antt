@@ -1,11 +1,11 @@
 -- In a table in which no bound follows more tightly from others each bound is attained by an integer point.
-use Rattle.std.proofs.Common.{◌≡◌, ◌⊎◌, inl, inr, ℕ, zero, suc, ◌+◌, ◌-◌, ◌*◌, ◌/◌, ◌%◌, ◌<◌, ◌≤◌, ◌≢◌, ℤ, pos, negsuc, ◌+ℤ◌, ◌-ℤ◌, ◌≤ℤ◌, ◌<ℤ◌, neg_ℤ, refl, sym, ◌∙◌, ap, subst, arith, nat_eq, true, false, Bool, cond}
-use Rattle.std.proofs.lemmas.Int.{ints, clamps, by_lt_z}
-use Rattle.std.proofs.lemmas.Bool.{cases_lt, cases_eq}
+use Rattle.std.proofs.Common.{◌≡◌, ◌⊎◌, inl, inr, ℕ, zero, suc, ◌+◌, ◌*◌, ◌/◌, ◌%◌, ◌<◌, ◌≤◌, ℤ, pos, ◌+ℤ◌, ◌-ℤ◌, ◌≤ℤ◌, neg_ℤ, refl, sym, ◌∙◌, ap, subst, arith}
+use Rattle.std.proofs.lemmas.Int.{ints}
+use Rattle.std.proofs.lemmas.Bool.{cases_lt}
 use Rattle.wm_octagon.specs.Layout.{opposite}
-use Rattle.wm_octagon.specs.Closing.{half_of, top, closed}
+use Rattle.wm_octagon.specs.Closing.{top, closed}
 use Rattle.wm_octagon.specs.Points.{side_value}
-use Rattle.wm_octagon.proofs.Tables.{IsTable, opposite-opposite, opposite-lt, closed-table, closed_le, closed_new, half-double}
+use Rattle.wm_octagon.proofs.Tables.{IsTable, opposite-lt, closed-table, closed_le, closed_new}
 
 -- ---- the values of sides
 
@@ -22,7 +22,7 @@ even_or_odd k = grind arith
 
 pub side_value-opposite : (x : ℕ → ℤ) (k : ℕ) → side_value x (opposite k) ≡ neg_ℤ (side_value x k)
 side_value-opposite x k = elim (even_or_odd k) [
-    inl e ↦ (
+  | inl e ↦ (
       let a = side_value-even x k e in
       let b = side_value-odd x (opposite k) (omega arith) in
       let h : opposite k / 2 ≡ k / 2 = omega arith in
@@ -34,7 +34,7 @@ side_value-opposite x k = elim (even_or_odd k) [
       let h : opposite k / 2 ≡ k / 2 = omega arith in
       let f = ap x h in
       omega (arith, ints))
-  ]
+]
 
 -- ---- points of tables
 
@@ -56,7 +56,7 @@ unfolding fixed
 is_fixed n m zero t h = record {
   table = t;
   below = λ k l. omega (arith, ints);
-  one_value = λ u lt. absurd (omega arith)
+  one_value = λ u lt. absurd (omega arith);
 }
 is_fixed n m (suc v) t h =
     let f = is_fixed n m v t (omega arith) in
@@ -67,7 +67,7 @@ is_fixed n m (suc v) t h =
       table = closed-table n (fixed m v) (2 * v) (2 * v + 1) c f.table i_in j_in (omega (arith, ints));
       below = λ k l. let a = closed_le (fixed m v) (2 * v) (2 * v + 1) c k l in let b = f.below k l in omega (arith, ints);
       one_value = λ u lt. elim (cases_lt u v) [
-          inl before ↦ (
+        | inl before ↦ (
             let a = closed_le (fixed m v) (2 * v) (2 * v + 1) c (2 * u) (2 * u + 1) in
             let b = closed_le (fixed m v) (2 * v) (2 * v + 1) c (2 * u + 1) (2 * u) in
             let d = f.one_value u before in
@@ -77,7 +77,7 @@ is_fixed n m (suc v) t h =
             let a = closed_new n (fixed m v) (2 * v) (2 * v + 1) c f.table i_in j_in in
             let b = closed_le (fixed m v) (2 * v) (2 * v + 1) c (2 * v + 1) (2 * v) in
             subst (λ w. (fixed m (suc v) (2 * w) (2 * w + 1) +ℤ fixed m (suc v) (2 * w + 1) (2 * w)) ≤ℤ pos 0) e (omega (arith, ints)))
-        ]
+      ];
     }
 
 -- the value of each variable in a table that leaves each but one
@@ -108,26 +108,26 @@ top-opposite n m o u h =
 side_value-corner : (n : ℕ) (m : ℕ → ℕ → ℤ) → OneValued n m → (k : ℕ) → k < 2 * n → side_value (corner m) k ≡ top m k
 unfolding corner
 side_value-corner n m o k h = elim (even_or_odd k) [
-    inl e ↦ side_value-even (corner m) k e ∙ ap (top m) (omega arith)
+  | inl e ↦ side_value-even (corner m) k e ∙ ap (top m) (omega arith)
   | inr e ↦ (
       let p : 2 * (k / 2) + 1 ≡ k = omega arith in
       side_value-odd (corner m) k e ∙ sym (top-opposite n m o (k / 2) (omega arith)) ∙ ap (top m) p)
-  ]
+]
 
 corner-meets : (n : ℕ) (m : ℕ → ℕ → ℤ) → OneValued n m → Meets n m (corner m)
 corner-meets n m o = record {
   within = λ k l hk hl.
-    let t = o.table in
-    let ok = opposite-lt n k hk in
-    let ol = opposite-lt n l hl in
-    let a = side_value-corner n m o k hk in
-    let b = side_value-corner n m o l hl in
-    let ek = t.even k hk in
-    let el = t.even l hl in
-    let mirror : m k l ≡ m (opposite l) (opposite k) = t.coherent k l hk hl in
-    let t1 = t.triangle (opposite l) (opposite k) l ol ok hl in
-    let t2 = t.triangle (opposite k) k l ok hk hl in
-    omega (arith, ints)
+      let t = o.table in
+      let ok = opposite-lt n k hk in
+      let ol = opposite-lt n l hl in
+      let a = side_value-corner n m o k hk in
+      let b = side_value-corner n m o l hl in
+      let ek = t.even k hk in
+      let el = t.even l hl in
+      let mirror : m k l ≡ m (opposite l) (opposite k) = t.coherent k l hk hl in
+      let t1 = t.triangle (opposite l) (opposite k) l ol ok hl in
+      let t2 = t.triangle (opposite k) k l ok hk hl in
+      omega (arith, ints);
 }
 
 -- each table has a point
@@ -154,9 +154,9 @@ attained n m k l t hk hl =
       x = p.0;
       meets = record { within = λ a b ha hb. let u = w.within a b ha hb in let v = closed_le m l k c a b in omega (arith, ints) };
       gives =
-        let u = w.within k l hk hl in
-        let v = closed_le m l k c k l in
-        let u' = w.within l k hl hk in
-        let v' = closed_new n m l k c t hl hk in
-        omega (arith, ints)
+          let u = w.within k l hk hl in
+          let v = closed_le m l k c k l in
+          let u' = w.within l k hl hk in
+          let v' = closed_new n m l k c t hl hk in
+          omega (arith, ints);
     }

@@ -1,15 +1,15 @@
 -- The arrays of a closing give the table with one more bound, and its numbers stay small.
-use Rattle.std.proofs.Common.{◌≡◌, ℕ, ◌*◌, ◌<◌, ◌≤◌, ℤ, pos, negsuc, ◌+ℤ◌, ◌≤ℤ◌, List, refl, sym, subst, ◌∙◌, ap, arith}
+use Rattle.std.proofs.Common.{◌≡◌, ℕ, ◌*◌, ◌<◌, ℤ, pos, ◌+ℤ◌, ◌≤ℤ◌, List, sym, subst, ◌∙◌, ap, arith}
 use Rattle.std.proofs.lemmas.Int.{ints}
 use Rattle.std.specs.Int.{int_min}
-use Rattle.wm_octagon.specs.Layout.{opposite, row_len, row_start, place, entry, bound, table}
+use Rattle.wm_octagon.specs.Layout.{opposite, row_len, place, entry, bound, table}
 use Rattle.wm_octagon.specs.Closing.{half_of, top, through, with_bound, joined, closed}
 use Rattle.wm_octagon.specs.HalfTable.{IsSmall, IsWhole}
 use Rattle.wm_octagon.specs.Medium.{IsMedium, Filled}
 use Rattle.wm_octagon.specs.Ways.{at, AreRows, AreWays, least_way}
 use Rattle.wm_octagon.specs.Points.{IsTight}
 use Rattle.wm_octagon.proofs.Rows.{length-table, entry-table, table-all}
-use Rattle.wm_octagon.proofs.Tables.{IsTable, opposite-lt, closed-table, closed_le}
+use Rattle.wm_octagon.proofs.Tables.{opposite-lt, closed-table, closed_le}
 use Rattle.wm_octagon.proofs.Tight.{bound_here, column-lt, table_of}
 
 -- equal functions fill a table, and a list, alike
@@ -73,14 +73,14 @@ pub ways-are : (n : ℕ) (near far : List ℤ) (f g : ℕ → ℤ) (a c : ℤ) (
 unfolding through
 ways-are n near far f g a c xs hf hg t =
     filled-ext IsMedium _ _ (2 * n) xs
-      (λ k h. let p = hf (opposite k) (opposite-lt n k h) in let q = hg (opposite k) (opposite-lt n k h) in
-        ap (λ z. int_min (z +ℤ c) (at far (opposite k) +ℤ a)) p ∙ ap (λ z. int_min (f (opposite k) +ℤ c) (z +ℤ a)) q) t
+    (λ k h. let p = hf (opposite k) (opposite-lt n k h) in let q = hg (opposite k) (opposite-lt n k h) in
+    ap (λ z. int_min (z +ℤ c) (at far (opposite k) +ℤ a)) p ∙ ap (λ z. int_min (f (opposite k) +ℤ c) (z +ℤ a)) q) t
 
 -- the same, with the numbers given by equations
 pub ways-given : (n : ℕ) (near far : List ℤ) (f g : ℕ → ℤ) (a a' c c' : ℤ) (s : ℕ) (xs : List ℤ) → ((k : ℕ) → k < 2 * n → at near k ≡ f k) → ((k : ℕ) → k < 2 * n → at far k ≡ g k)
     → a ≡ a' → c ≡ c' → s ≡ 2 * n → Filled IsMedium (through (at near) (at far) a c) s xs → Filled IsMedium (through f g a' c') (2 * n) xs
 ways-given n near far f g a a' c c' s xs hf hg ea ec es t =
     ways-are n near far f g a' c' xs hf hg
-      (subst (λ z. Filled IsMedium (through (at near) (at far) a' z) (2 * n) xs) ec
-        (subst (λ z. Filled IsMedium (through (at near) (at far) z c) (2 * n) xs) ea
-          (subst (λ z. Filled IsMedium (through (at near) (at far) a c) z xs) es t)))
+    (subst (λ z. Filled IsMedium (through (at near) (at far) a' z) (2 * n) xs) ec
+    (subst (λ z. Filled IsMedium (through (at near) (at far) z c) (2 * n) xs) ea
+    (subst (λ z. Filled IsMedium (through (at near) (at far) a c) z xs) es t)))

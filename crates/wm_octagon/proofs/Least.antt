@@ -1,13 +1,13 @@
 -- What one more bound leaves is the least octagon of the points that meet it.
-use Rattle.std.proofs.Common.{◌≡◌, ◌⊎◌, inl, inr, ℕ, zero, suc, ◌+◌, ◌-◌, ◌*◌, ◌/◌, ◌%◌, ◌<◌, ◌≤◌, ◌≢◌, ℤ, pos, negsuc, ◌+ℤ◌, ◌-ℤ◌, ◌≤ℤ◌, ◌<ℤ◌, neg_ℤ, List, refl, sym, ◌∙◌, ap, subst, arith, true, false, Bool, cond}
-use Rattle.std.proofs.lemmas.Int.{ints, clamps, by_lt_z}
+use Rattle.std.proofs.Common.{ℕ, ◌*◌, ◌<◌, ℤ, pos, ◌+ℤ◌, ◌-ℤ◌, ◌≤ℤ◌, ◌<ℤ◌, List, sym, ◌∙◌, arith}
+use Rattle.std.proofs.lemmas.Int.{ints, clamps}
 use Rattle.std.specs.Int.{int_min}
-use Rattle.wm_octagon.specs.Layout.{opposite, row_len, entry, bound, table}
-use Rattle.wm_octagon.specs.Closing.{half_of, top, through, with_bound, joined, closed}
-use Rattle.wm_octagon.specs.Points.{side_value, IsPoint, IsTight, Attains, LeastOctagon, WithBound}
+use Rattle.wm_octagon.specs.Layout.{opposite, bound, table}
+use Rattle.wm_octagon.specs.Closing.{top, through, with_bound, joined, closed}
+use Rattle.wm_octagon.specs.Points.{side_value, IsPoint, IsTight, LeastOctagon, WithBound}
 use Rattle.wm_octagon.proofs.Rows.{entry-table}
-use Rattle.wm_octagon.proofs.Tables.{IsTable, opposite-opposite, opposite-lt, le_half, min_is, closed-table, closed_le, closed_new}
-use Rattle.wm_octagon.proofs.Attained.{Meets, Attained, attained, point_of, side_value-opposite}
+use Rattle.wm_octagon.proofs.Tables.{opposite-lt, le_half, closed-table, closed_le, closed_new}
+use Rattle.wm_octagon.proofs.Attained.{Meets, attained, point_of, side_value-opposite}
 use Rattle.wm_octagon.proofs.Tight.{table_of, meets_of, point_from, column-lt, bound-table}
 
 -- what holds of two numbers holds of the lesser
@@ -34,22 +34,22 @@ on_way n m i j c x w hi hj b k hk =
     let a4 = w.within j (opposite j) hj oj in
     record {
       to_j = le_least (side_value x j -ℤ side_value x k) (m (opposite i) (opposite k) +ℤ c) (m j (opposite k) +ℤ (c +ℤ c +ℤ m (opposite i) i)) (omega (arith, ints)) (omega (arith, ints));
-      to_i = le_least (side_value x (opposite i) -ℤ side_value x k) (m j (opposite k) +ℤ c) (m (opposite i) (opposite k) +ℤ (c +ℤ c +ℤ m j (opposite j))) (omega (arith, ints)) (omega (arith, ints))
+      to_i = le_least (side_value x (opposite i) -ℤ side_value x k) (m j (opposite k) +ℤ c) (m (opposite i) (opposite k) +ℤ (c +ℤ c +ℤ m j (opposite j))) (omega (arith, ints)) (omega (arith, ints));
     }
 
 with_bound-meets : (n : ℕ) (m : ℕ → ℕ → ℤ) (i j : ℕ) (c : ℤ) (x : ℕ → ℤ) → Meets n m x → i < 2 * n → j < 2 * n → (side_value x j -ℤ side_value x i) ≤ℤ c → Meets n (with_bound m i j c) x
 unfolding with_bound
 with_bound-meets n m i j c x w hi hj b = record {
   within = λ k l hk hl.
-    let o = on_way n m i j c x w hi hj b k hk in
-    let o1 = o.to_j in
-    let o2 = o.to_i in
-    let a1 = w.within k l hk hl in
-    let a2 = w.within j l hj hl in
-    let a3 = w.within (opposite i) l (opposite-lt n i hi) hl in
-    let by_j : (side_value x l -ℤ side_value x k) ≤ℤ (through (m (opposite i)) (m j) (c +ℤ c +ℤ m (opposite i) i) c k +ℤ m j l) = omega (arith, ints) in
-    let by_i : (side_value x l -ℤ side_value x k) ≤ℤ (through (m j) (m (opposite i)) (c +ℤ c +ℤ m j (opposite j)) c k +ℤ m (opposite i) l) = omega (arith, ints) in
-    le_least _ _ _ a1 (le_least _ _ _ by_j by_i)
+      let o = on_way n m i j c x w hi hj b k hk in
+      let o1 = o.to_j in
+      let o2 = o.to_i in
+      let a1 = w.within k l hk hl in
+      let a2 = w.within j l hj hl in
+      let a3 = w.within (opposite i) l (opposite-lt n i hi) hl in
+      let by_j : (side_value x l -ℤ side_value x k) ≤ℤ (through (m (opposite i)) (m j) (c +ℤ c +ℤ m (opposite i) i) c k +ℤ m j l) = omega (arith, ints) in
+      let by_i : (side_value x l -ℤ side_value x k) ≤ℤ (through (m j) (m (opposite i)) (c +ℤ c +ℤ m j (opposite j)) c k +ℤ m (opposite i) l) = omega (arith, ints) in
+      le_least _ _ _ a1 (le_least _ _ _ by_j by_i);
 }
 
 -- a point's value of a side is at most what its own bound leaves
@@ -65,12 +65,12 @@ joined-meets : (n : ℕ) (m : ℕ → ℕ → ℤ) (x : ℕ → ℤ) → Meets n
 unfolding joined
 joined-meets n m x w = record {
   within = λ k l hk hl.
-    let a = w.within k l hk hl in
-    let p = value_le_top n m x w (opposite k) (opposite-lt n k hk) in
-    let q = value_le_top n m x w l hl in
-    let s = side_value-opposite x k in
-    let alone : (side_value x l -ℤ side_value x k) ≤ℤ (top m (opposite k) +ℤ top m l) = omega (arith, ints) in
-    le_least _ _ _ a alone
+      let a = w.within k l hk hl in
+      let p = value_le_top n m x w (opposite k) (opposite-lt n k hk) in
+      let q = value_le_top n m x w l hl in
+      let s = side_value-opposite x k in
+      let alone : (side_value x l -ℤ side_value x k) ≤ℤ (top m (opposite k) +ℤ top m l) = omega (arith, ints) in
+      le_least _ _ _ a alone;
 }
 
 pub closed-meets : (n : ℕ) (m : ℕ → ℕ → ℤ) (i j : ℕ) (c : ℤ) (x : ℕ → ℤ) → Meets n m x → i < 2 * n → j < 2 * n → (side_value x j -ℤ side_value x i) ≤ℤ c → Meets n (closed m i j c) x
@@ -82,7 +82,7 @@ pub tight_of_least : (n : ℕ) (P : (ℕ → ℤ) → Type 0) (xs : List ℤ) �
 tight_of_least n P xs t = record {
   point = t.some;
   is_point = t.holds t.some t.some_is;
-  attained = λ k l hk hl. let a = t.attained k l hk hl in record { x = a.x; is = t.holds a.x a.is; gives = a.gives }
+  attained = λ k l hk hl. let a = t.attained k l hk hl in record { x = a.x; is = t.holds a.x a.is; gives = a.gives };
 }
 
 -- one more bound that does not contradict the list
@@ -91,37 +91,39 @@ closed-least n xs i j c t hi hj room =
     let m = table_of n xs t in
     let m' = closed-table n (bound xs) i j c m hi hj room in
     let back = λ (x : ℕ → ℤ) (w : Meets n (closed (bound xs) i j c) x).
-        let is : WithBound n xs i j c x = record {
-            point = point_from n xs x (record { within = λ k l hk hl. let a = w.within k l hk hl in let b = closed_le (bound xs) i j c k l in omega (arith, ints) });
-            bounded = let a = w.within i j hi hj in let b = closed_new n (bound xs) i j c m hi hj in omega (arith, ints)
-          } in is in
+    let is : WithBound n xs i j c x = record {
+      point = point_from n xs x (record { within = λ k l hk hl. let a = w.within k l hk hl in let b = closed_le (bound xs) i j c k l in omega (arith, ints) });
+      bounded = let a = w.within i j hi hj in let b = closed_new n (bound xs) i j c m hi hj in omega (arith, ints);
+    } in is in
     let p = point_of n (closed (bound xs) i j c) m' in
     record {
       some = p.0;
       some_is = back p.0 p.1;
-      holds = λ x b. record { meets = λ k l hk hl.
-          let w = closed-meets n (bound xs) i j c x (meets_of n xs x b.point) hi hj b.bounded in
-          let a = w.within k l hk (column-lt n k l hk hl) in
-          let e = entry-table (2 * n) (closed (bound xs) i j c) k l hk hl in
-          omega (arith, ints) };
+      holds = λ x b. record {
+        meets = λ k l hk hl.
+            let w = closed-meets n (bound xs) i j c x (meets_of n xs x b.point) hi hj b.bounded in
+            let a = w.within k l hk (column-lt n k l hk hl) in
+            let e = entry-table (2 * n) (closed (bound xs) i j c) k l hk hl in
+            omega (arith, ints);
+      };
       attained = λ k l hk hl.
           let a = attained n (closed (bound xs) i j c) k l m' hk (column-lt n k l hk hl) in
-          record { x = a.x; is = back a.x a.meets; gives = a.gives ∙ sym (entry-table (2 * n) (closed (bound xs) i j c) k l hk hl) }
+          record { x = a.x; is = back a.x a.meets; gives = a.gives ∙ sym (entry-table (2 * n) (closed (bound xs) i j c) k l hk hl) };
     }
 
 -- a bound that is known already
 pub known-least : (n : ℕ) (xs : List ℤ) (i j : ℕ) (c : ℤ) → IsTight n xs → i < 2 * n → j < 2 * n → bound xs i j ≤ℤ c → LeastOctagon n (WithBound n xs i j c) xs
 known-least n xs i j c t hi hj known =
     let back = λ (x : ℕ → ℤ) (p : IsPoint n xs x).
-        let is : WithBound n xs i j c x = record {
-            point = p;
-            bounded = let a = (meets_of n xs x p).within i j hi hj in omega (arith, ints)
-          } in is in
+    let is : WithBound n xs i j c x = record {
+      point = p;
+      bounded = let a = (meets_of n xs x p).within i j hi hj in omega (arith, ints);
+    } in is in
     record {
       some = t.point;
       some_is = back t.point t.is_point;
       holds = λ x b. b.point;
-      attained = λ k l hk hl. let a = t.attained k l hk hl in record { x = a.x; is = back a.x a.is; gives = a.gives }
+      attained = λ k l hk hl. let a = t.attained k l hk hl in record { x = a.x; is = back a.x a.is; gives = a.gives };
     }
 
 -- a bound that contradicts the list leaves no point
@@ -140,7 +142,7 @@ closed-points n xs i j c t hi hj room x p =
     let at = bound-table n (closed (bound xs) i j c) (λ k l hk hl. m'.coherent k l hk hl) in
     record {
       point = point_from n xs x (record { within = λ k l hk hl. let a = w.within k l hk hl in let e = at k l hk hl in let b = closed_le (bound xs) i j c k l in omega (arith, ints) });
-      bounded = let a = w.within i j hi hj in let e = at i j hi hj in let b = closed_new n (bound xs) i j c m hi hj in omega (arith, ints)
+      bounded = let a = w.within i j hi hj in let e = at i j hi hj in let b = closed_new n (bound xs) i j c m hi hj in omega (arith, ints);
     }
 
 pub known-points : (n : ℕ) (xs : List ℤ) (i j : ℕ) (c : ℤ) → i < 2 * n → j < 2 * n → bound xs i j ≤ℤ c → (x : ℕ → ℤ) → (IsPoint n xs x → WithBound n xs i j c x) × (WithBound n xs i j c x → IsPoint n xs x)

@@ -3,6 +3,7 @@ pub mod Filled
 pub mod Closings
 pub mod Least
 pub mod Moves
+pub mod Ranges
 pub mod Rows
 pub mod Small
 pub mod Tables

@@ -1,16 +1,16 @@
 -- What a variable that is set free, or gets a new value, leaves is the least octagon of the points so made.
-use Rattle.std.proofs.Common.{◌≡◌, ◌⊎◌, inl, inr, ℕ, zero, suc, ◌+◌, ◌-◌, ◌*◌, ◌/◌, ◌%◌, ◌<◌, ◌≤◌, ◌≢◌, ℤ, pos, negsuc, ◌+ℤ◌, ◌-ℤ◌, ◌≤ℤ◌, ◌<ℤ◌, neg_ℤ, List, refl, sym, ◌∙◌, ap, subst, arith, nat_eq, ◌||◌, true, false, Bool, cond}
+use Rattle.std.proofs.Common.{◌≡◌, ◌⊎◌, inl, inr, ℕ, ◌+◌, ◌*◌, ◌/◌, ◌%◌, ◌<◌, ◌≢◌, ℤ, pos, ◌+ℤ◌, ◌-ℤ◌, ◌≤ℤ◌, neg_ℤ, List, refl, sym, ◌∙◌, ap, subst, arith, nat_eq, true, false, cond}
 use Rattle.std.proofs.lemmas.Int.{ints}
 use Rattle.std.proofs.lemmas.Bool.{cases_eq}
 use Rattle.wm_numbers.specs.Within.{Within}
-use Rattle.wm_octagon.specs.Layout.{opposite, row_len, entry, bound, table}
-use Rattle.wm_octagon.specs.Closing.{half_of, top}
+use Rattle.wm_octagon.specs.Layout.{opposite, bound, table}
+use Rattle.wm_octagon.specs.Closing.{top}
 use Rattle.wm_octagon.specs.Points.{side_value, IsPoint, IsTight, Attains, LeastOctagon}
-use Rattle.wm_octagon.specs.Changes.{apart, loosened, source_of, rise, assigned, Forgotten, Assigned}
+use Rattle.wm_octagon.specs.Changes.{loosened, source_of, rise, assigned, Forgotten, Assigned}
 use Rattle.wm_octagon.proofs.Rows.{entry-table}
-use Rattle.wm_octagon.proofs.Tables.{IsTable, opposite-opposite, opposite-lt, half_le, le_half, half-double}
-use Rattle.wm_octagon.proofs.Attained.{Meets, side_value-opposite, side_value-even, side_value-odd}
-use Rattle.wm_octagon.proofs.Tight.{table_of, meets_of, point_from, column-lt, attains_bound, bound_here}
+use Rattle.wm_octagon.proofs.Tables.{opposite-opposite, opposite-lt, half_le, le_half}
+use Rattle.wm_octagon.proofs.Attained.{side_value-opposite, side_value-even, side_value-odd}
+use Rattle.wm_octagon.proofs.Tight.{table_of, meets_of, column-lt, attains_bound}
 use Rattle.wm_octagon.proofs.Least.{value_le_top}
 
 -- a side's greatest value is that of a point
@@ -30,14 +30,14 @@ peak n xs k t hk =
     record { x = a.x; point = a.is; gives = omega (arith, ints) }
 
 -- x with another value of variable v
-moved : (ℕ → ℤ) → ℕ → ℤ → ℕ → ℤ
+pub moved : (ℕ → ℤ) → ℕ → ℤ → ℕ → ℤ
 moved x v t w = cond (nat_eq w v) t (x w)
 
-moved-here : (x : ℕ → ℤ) (v : ℕ) (t : ℤ) → moved x v t v ≡ t
+pub moved-here : (x : ℕ → ℤ) (v : ℕ) (t : ℤ) → moved x v t v ≡ t
 unfolding moved
 moved-here x v t = let e : nat_eq v v ≡ true = grind arith in rw e refl
 
-moved-there : (x : ℕ → ℤ) (v : ℕ) (t : ℤ) (w : ℕ) → w ≢ v → moved x v t w ≡ x w
+pub moved-there : (x : ℕ → ℤ) (v : ℕ) (t : ℤ) (w : ℕ) → w ≢ v → moved x v t w ≡ x w
 unfolding moved
 moved-there x v t w h = let e : nat_eq w v ≡ false = grind arith in rw e refl
 
@@ -49,14 +49,14 @@ side_plus x v = side_value-even x (2 * v) (omega arith) ∙ ap x (omega arith)
 pub side_minus : (x : ℕ → ℤ) (v : ℕ) → side_value x (2 * v + 1) ≡ neg_ℤ (x v)
 side_minus x v = side_value-odd x (2 * v + 1) (omega arith) ∙ ap (λ w. neg_ℤ (x w)) (omega arith)
 
-even_or_odd : (k : ℕ) → (k % 2 ≡ 0) ⊎ (k % 2 ≡ 1)
+pub even_or_odd : (k : ℕ) → (k % 2 ≡ 0) ⊎ (k % 2 ≡ 1)
 even_or_odd k = grind arith
 
 pub side_other : (x y : ℕ → ℤ) (k : ℕ) → x (k / 2) ≡ y (k / 2) → side_value x k ≡ side_value y k
 side_other x y k e = elim (even_or_odd k) [
-    inl h ↦ side_value-even x k h ∙ e ∙ sym (side_value-even y k h)
+  | inl h ↦ side_value-even x k h ∙ e ∙ sym (side_value-even y k h)
   | inr h ↦ side_value-odd x k h ∙ ap neg_ℤ e ∙ sym (side_value-odd y k h)
-  ]
+]
 
 -- which of the sides of v side k is
 pub data Which (v k : ℕ) : Type 0 where
@@ -66,9 +66,9 @@ pub data Which (v k : ℕ) : Type 0 where
 
 pub which : (v k : ℕ) → Which v k
 which v k = elim (cases_eq (k / 2) v) [
-    inl e ↦ elim (even_or_odd k) [ inl h ↦ plus (omega arith) | inr h ↦ minus (omega arith) ]
+  | inl e ↦ elim (even_or_odd k) [ inl h ↦ plus (omega arith) | inr h ↦ minus (omega arith) ]
   | inr h ↦ other h
-  ]
+]
 
 -- ---- a variable is set free
 
@@ -83,13 +83,13 @@ forgotten_le n xs v low high tops f x p k hk =
     let below = p.value.below in
     let above = p.value.above in
     elim (which v k) [
-      plus e ↦ (let s = ap (side_value x) e ∙ side_plus x v in let t = ap tops e ∙ f.at_plus in omega (arith, ints))
-    | minus e ↦ (let s = ap (side_value x) e ∙ side_minus x v in let t = ap tops e ∙ f.at_minus in omega (arith, ints))
-    | other h ↦ (
-        let s = side_other x p.was k (p.others (k / 2) h) in
-        let t = f.elsewhere k hk h in
-        let a = value_le_top n (bound xs) p.was (meets_of n xs p.was p.point) k hk in
-        omega (arith, ints))
+      | plus e ↦ (let s = ap (side_value x) e ∙ side_plus x v in let t = ap tops e ∙ f.at_plus in omega (arith, ints))
+      | minus e ↦ (let s = ap (side_value x) e ∙ side_minus x v in let t = ap tops e ∙ f.at_minus in omega (arith, ints))
+      | other h ↦ (
+          let s = side_other x p.was k (p.others (k / 2) h) in
+          let t = f.elsewhere k hk h in
+          let a = value_le_top n (bound xs) p.was (meets_of n xs p.was p.point) k hk in
+          omega (arith, ints))
     ]
 
 forgotten-moved : (n : ℕ) (xs : List ℤ) (v : ℕ) (low high : ℤ) (x : ℕ → ℤ) (t : ℤ) → IsPoint n xs x → Within low high t → Forgotten n xs v low high (moved x v t)
@@ -97,7 +97,7 @@ forgotten-moved n xs v low high x t p w = record {
   was = x;
   point = p;
   others = λ u h. moved-there x v t u h;
-  value = subst (Within low high) (sym (moved-here x v t)) w
+  value = subst (Within low high) (sym (moved-here x v t)) w;
 }
 
 -- a forgotten point at which side k, and any side of another variable, is at its greatest
@@ -115,18 +115,18 @@ record Choice (v : ℕ) (low high : ℤ) (tops : ℕ → ℤ) (k : ℕ) : Type 0
 
 choice : (n : ℕ) (xs : List ℤ) (v : ℕ) (low high : ℤ) (tops : ℕ → ℤ) → FreeTops n xs v low high tops → low ≤ℤ high → (k : ℕ) → k / 2 ≡ v → Choice v low high tops k
 choice n xs v low high tops f o k h = elim (which v k) [
-    plus e ↦ record {
-      t = high;
-      inside = record { above = o; below = omega (arith, ints) };
-      gives = λ x. ap (side_value (moved x v high)) e ∙ side_plus (moved x v high) v ∙ moved-here x v high ∙ sym (ap tops e ∙ f.at_plus)
-    }
+  | plus e ↦ record {
+    t = high;
+    inside = record { above = o; below = omega (arith, ints) };
+    gives = λ x. ap (side_value (moved x v high)) e ∙ side_plus (moved x v high) v ∙ moved-here x v high ∙ sym (ap tops e ∙ f.at_plus);
+  }
   | minus e ↦ record {
-      t = low;
-      inside = record { above = omega (arith, ints); below = o };
-      gives = λ x. ap (side_value (moved x v low)) e ∙ side_minus (moved x v low) v ∙ ap neg_ℤ (moved-here x v low) ∙ sym (ap tops e ∙ f.at_minus)
-    }
+    t = low;
+    inside = record { above = omega (arith, ints); below = o };
+    gives = λ x. ap (side_value (moved x v low)) e ∙ side_minus (moved x v low) v ∙ ap neg_ℤ (moved-here x v low) ∙ sym (ap tops e ∙ f.at_minus);
+  }
   | other away ↦ absurd (away h)
-  ]
+]
 
 highest : (n : ℕ) (xs : List ℤ) (v : ℕ) (low high : ℤ) (tops : ℕ → ℤ) → IsTight n xs → FreeTops n xs v low high tops → low ≤ℤ high → (k l : ℕ) → k / 2 ≡ v → l / 2 ≢ v → l < 2 * n → Highest n xs v low high tops k l
 highest n xs v low high tops t f o k l hk hl l_in =
@@ -136,15 +136,15 @@ highest n xs v low high tops t f o k l hk hl l_in =
       x = moved p.x v c.t;
       is = forgotten-moved n xs v low high p.x c.t p.point c.inside;
       first = c.gives p.x;
-      second = side_other (moved p.x v c.t) p.x l (moved-there p.x v c.t (l / 2) hl) ∙ p.gives ∙ sym (f.elsewhere l l_in hl)
+      second = side_other (moved p.x v c.t) p.x l (moved-there p.x v c.t (l / 2) hl) ∙ p.gives ∙ sym (f.elsewhere l l_in hl);
     }
 
 loosened-same : (v : ℕ) (tops : ℕ → ℤ) (m : ℕ → ℕ → ℤ) (k : ℕ) → m k k ≡ pos 0 → loosened v tops m k k ≡ pos 0
 loosened-same v tops m k h =
     let e : nat_eq k k ≡ true = grind arith in
     elim (cases_eq (k / 2) v) [
-      inl s ↦ (let a : nat_eq (k / 2) v ≡ true = grind arith in rw (a, e) refl)
-    | inr s ↦ (let a : nat_eq (k / 2) v ≡ false = grind arith in rw a h)
+      | inl s ↦ (let a : nat_eq (k / 2) v ≡ true = grind arith in rw (a, e) refl)
+      | inr s ↦ (let a : nat_eq (k / 2) v ≡ false = grind arith in rw a h)
     ]
 
 loosened-left : (v : ℕ) (tops : ℕ → ℤ) (m : ℕ → ℕ → ℤ) (k l : ℕ) → k ≢ l → k / 2 ≡ v → loosened v tops m k l ≡ tops (opposite k) +ℤ tops l
@@ -173,20 +173,20 @@ forget-holds n xs v low high tops t f x p k l hk hl =
     let b = forgotten_le n xs v low high tops f x p l hl in
     let s = side_value-opposite x k in
     elim (cases_eq k l) [
-      inl e ↦ (
-        let z = ap (loosened v tops (bound xs) k) (sym e) ∙ loosened-same v tops (bound xs) k ((table_of n xs t).same k hk) in
-        let y = ap (side_value x) e in
-        omega (arith, ints))
-    | inr d ↦ elim (cases_eq (k / 2) v) [
-        inl free ↦ (let z = loosened-left v tops (bound xs) k l d free in omega (arith, ints))
-      | inr r ↦ elim (cases_eq (l / 2) v) [
-          inl free ↦ (let z = loosened-right v tops (bound xs) k l d r free in omega (arith, ints))
-        | inr q ↦ (
-            let z = loosened-none v tops (bound xs) k l r q in
-            let ek = side_other x p.was k (p.others (k / 2) r) in
-            let el = side_other x p.was l (p.others (l / 2) q) in
-            let w = (meets_of n xs p.was p.point).within k l hk hl in
-            omega (arith, ints))
+      | inl e ↦ (
+          let z = ap (loosened v tops (bound xs) k) (sym e) ∙ loosened-same v tops (bound xs) k ((table_of n xs t).same k hk) in
+          let y = ap (side_value x) e in
+          omega (arith, ints))
+      | inr d ↦ elim (cases_eq (k / 2) v) [
+        | inl free ↦ (let z = loosened-left v tops (bound xs) k l d free in omega (arith, ints))
+        | inr r ↦ elim (cases_eq (l / 2) v) [
+          | inl free ↦ (let z = loosened-right v tops (bound xs) k l d r free in omega (arith, ints))
+          | inr q ↦ (
+              let z = loosened-none v tops (bound xs) k l r q in
+              let ek = side_other x p.was k (p.others (k / 2) r) in
+              let el = side_other x p.was l (p.others (l / 2) q) in
+              let w = (meets_of n xs p.was p.point).within k l hk hl in
+              omega (arith, ints))
         ]
       ]
     ]
@@ -196,29 +196,29 @@ forget-attained : (n : ℕ) (xs : List ℤ) (v : ℕ) (low high : ℤ) (tops : �
 forget-attained n xs v low high tops t f o k l hk hl =
     let low_in : Within low high low = record { above = omega (arith, ints); below = o } in
     elim (cases_eq k l) [
-      inl e ↦ record {
+      | inl e ↦ record {
         x = moved t.point v low;
         is = forgotten-moved n xs v low high t.point low t.is_point low_in;
         gives =
-          let z = ap (loosened v tops (bound xs) k) (sym e) ∙ loosened-same v tops (bound xs) k ((table_of n xs t).same k hk) in
-          let y = ap (side_value (moved t.point v low)) e in
-          omega (arith, ints)
+            let z = ap (loosened v tops (bound xs) k) (sym e) ∙ loosened-same v tops (bound xs) k ((table_of n xs t).same k hk) in
+            let y = ap (side_value (moved t.point v low)) e in
+            omega (arith, ints);
       }
-    | inr d ↦ elim (cases_eq (k / 2) v) [
-        inl free ↦ elim (cases_eq (l / 2) v) [
-            inl both ↦ (
+      | inr d ↦ elim (cases_eq (k / 2) v) [
+        | inl free ↦ elim (cases_eq (l / 2) v) [
+          | inl both ↦ (
               let c = choice n xs v low high tops f o l both in
               let same : l ≡ opposite k = omega arith in
               record {
                 x = moved t.point v c.t;
                 is = forgotten-moved n xs v low high t.point c.t t.is_point c.inside;
                 gives =
-                  let z = loosened-left v tops (bound xs) k l d free in
-                  let g = c.gives t.point in
-                  let s = side_value-opposite (moved t.point v c.t) k in
-                  let y = ap (side_value (moved t.point v c.t)) same in
-                  let w = ap tops same in
-                  omega (arith, ints)
+                    let z = loosened-left v tops (bound xs) k l d free in
+                    let g = c.gives t.point in
+                    let s = side_value-opposite (moved t.point v c.t) k in
+                    let y = ap (side_value (moved t.point v c.t)) same in
+                    let w = ap tops same in
+                    omega (arith, ints);
               })
           | inr q ↦ (
               let h = highest n xs v low high tops t f o (opposite k) l (omega arith) q hl in
@@ -226,38 +226,38 @@ forget-attained n xs v low high tops t f o k l hk hl =
                 x = h.x;
                 is = h.is;
                 gives =
-                  let z = loosened-left v tops (bound xs) k l d free in
-                  let s = side_value-opposite h.x k in
-                  let g1 = h.first in
-                  let g2 = h.second in
-                  omega (arith, ints)
+                    let z = loosened-left v tops (bound xs) k l d free in
+                    let s = side_value-opposite h.x k in
+                    let g1 = h.first in
+                    let g2 = h.second in
+                    omega (arith, ints);
               })
-          ]
-      | inr r ↦ elim (cases_eq (l / 2) v) [
-          inl free ↦ (
-            let h = highest n xs v low high tops t f o l (opposite k) free (λ e. r (omega arith)) (opposite-lt n k hk) in
-            record {
-              x = h.x;
-              is = h.is;
-              gives =
-                let z = loosened-right v tops (bound xs) k l d r free in
-                let s = side_value-opposite h.x k in
-                let g1 = h.first in
-                let g2 = h.second in
-                omega (arith, ints)
-            })
-        | inr q ↦ (
-            let a = attains_bound n (IsPoint n xs) xs t.attained k l hk hl in
-            record {
-              x = moved a.x v low;
-              is = forgotten-moved n xs v low high a.x low a.is low_in;
-              gives =
-                let z = loosened-none v tops (bound xs) k l r q in
-                let ek = side_other (moved a.x v low) a.x k (moved-there a.x v low (k / 2) r) in
-                let el = side_other (moved a.x v low) a.x l (moved-there a.x v low (l / 2) q) in
-                let g = a.gives in
-                omega (arith, ints)
-            })
+        ]
+        | inr r ↦ elim (cases_eq (l / 2) v) [
+          | inl free ↦ (
+              let h = highest n xs v low high tops t f o l (opposite k) free (λ e. r (omega arith)) (opposite-lt n k hk) in
+              record {
+                x = h.x;
+                is = h.is;
+                gives =
+                    let z = loosened-right v tops (bound xs) k l d r free in
+                    let s = side_value-opposite h.x k in
+                    let g1 = h.first in
+                    let g2 = h.second in
+                    omega (arith, ints);
+              })
+          | inr q ↦ (
+              let a = attains_bound n (IsPoint n xs) xs t.attained k l hk hl in
+              record {
+                x = moved a.x v low;
+                is = forgotten-moved n xs v low high a.x low a.is low_in;
+                gives =
+                    let z = loosened-none v tops (bound xs) k l r q in
+                    let ek = side_other (moved a.x v low) a.x k (moved-there a.x v low (k / 2) r) in
+                    let el = side_other (moved a.x v low) a.x l (moved-there a.x v low (l / 2) q) in
+                    let g = a.gives in
+                    omega (arith, ints);
+              })
         ]
       ]
     ]
@@ -266,13 +266,15 @@ pub forget-least : (n : ℕ) (xs : List ℤ) (v : ℕ) (low high : ℤ) (tops : 
 forget-least n xs v low high tops t f o = record {
   some = moved t.point v low;
   some_is = forgotten-moved n xs v low high t.point low t.is_point (record { above = omega (arith, ints); below = o });
-  holds = λ x p. record { meets = λ k l hk here.
-      let a = forget-holds n xs v low high tops t f x p k l hk (column-lt n k l hk here) in
-      let e = entry-table (2 * n) (loosened v tops (bound xs)) k l hk here in
-      omega (arith, ints) };
+  holds = λ x p. record {
+    meets = λ k l hk here.
+        let a = forget-holds n xs v low high tops t f x p k l hk (column-lt n k l hk here) in
+        let e = entry-table (2 * n) (loosened v tops (bound xs)) k l hk here in
+        omega (arith, ints);
+  };
   attained = λ k l hk here.
       let a = forget-attained n xs v low high tops t f o k l hk (column-lt n k l hk here) in
-      record { x = a.x; is = a.is; gives = a.gives ∙ sym (entry-table (2 * n) (loosened v tops (bound xs)) k l hk here) }
+      record { x = a.x; is = a.is; gives = a.gives ∙ sym (entry-table (2 * n) (loosened v tops (bound xs)) k l hk here) };
 }
 
 -- ---- a variable gets a new value
@@ -310,14 +312,14 @@ rise_other v low high k h =
 
 source-lt : (n v s k : ℕ) → s < 2 * n → k < 2 * n → source_of v s k < 2 * n
 source-lt n v s k hs hk = elim (which v k) [
-    plus e ↦ subst (λ j. source_of v s j < 2 * n) (sym e) (subst (λ j. j < 2 * n) (sym (source_plus v s)) hs)
+  | plus e ↦ subst (λ j. source_of v s j < 2 * n) (sym e) (subst (λ j. j < 2 * n) (sym (source_plus v s)) hs)
   | minus e ↦ subst (λ j. source_of v s j < 2 * n) (sym e) (subst (λ j. j < 2 * n) (sym (source_minus v s)) (opposite-lt n s hs))
   | other h ↦ subst (λ j. j < 2 * n) (sym (source_other v s k h)) hk
-  ]
+]
 
 source-opposite : (v s k : ℕ) → source_of v s (opposite k) ≡ opposite (source_of v s k)
 source-opposite v s k = elim (which v k) [
-    plus e ↦ (
+  | plus e ↦ (
       let a : opposite k ≡ 2 * v + 1 = omega arith in
       ap (source_of v s) a ∙ source_minus v s ∙ ap opposite (sym (ap (source_of v s) e ∙ source_plus v s)))
   | minus e ↦ (
@@ -326,7 +328,7 @@ source-opposite v s k = elim (which v k) [
   | other h ↦ (
       let a : opposite k / 2 ≢ v = (λ e. h (omega arith)) in
       source_other v s (opposite k) a ∙ ap opposite (sym (source_other v s k h)))
-  ]
+]
 
 -- how side k of a new point differs from the old one
 record Rises (v s : ℕ) (low high : ℤ) (was x : ℕ → ℤ) (more : ℤ) (k : ℕ) : Type 0 where
@@ -341,20 +343,20 @@ rises n xs v s low high x p k =
     let below = p.more_in.below in
     let above = p.more_in.above in
     let on_plus = λ (e : k ≡ 2 * v).
-        let a : (side_value x k ≡ x v) × (source_of v s k ≡ s) × (rise v low high k ≡ high) = (ap (side_value x) e ∙ side_plus x v, ap (source_of v s) e ∙ source_plus v s, ap (rise v low high) e ∙ rise_plus v low high) in a in
+    let a : (side_value x k ≡ x v) × (source_of v s k ≡ s) × (rise v low high k ≡ high) = (ap (side_value x) e ∙ side_plus x v, ap (source_of v s) e ∙ source_plus v s, ap (rise v low high) e ∙ rise_plus v low high) in a in
     let on_minus = λ (e : k ≡ 2 * v + 1).
-        let a : (side_value x k ≡ neg_ℤ (x v)) × (side_value p.was (source_of v s k) ≡ neg_ℤ (side_value p.was s)) × (rise v low high k ≡ neg_ℤ low) = (ap (side_value x) e ∙ side_minus x v, ap (side_value p.was) (ap (source_of v s) e ∙ source_minus v s) ∙ side_value-opposite p.was s, ap (rise v low high) e ∙ rise_minus v low high) in a in
+    let a : (side_value x k ≡ neg_ℤ (x v)) × (side_value p.was (source_of v s k) ≡ neg_ℤ (side_value p.was s)) × (rise v low high k ≡ neg_ℤ low) = (ap (side_value x) e ∙ side_minus x v, ap (side_value p.was) (ap (source_of v s) e ∙ source_minus v s) ∙ side_value-opposite p.was s, ap (rise v low high) e ∙ rise_minus v low high) in a in
     let elsewhere = λ (h : k / 2 ≢ v).
-        let a : (side_value x k ≡ side_value p.was (source_of v s k)) × (rise v low high k ≡ pos 0) = (side_other x p.was k (p.others (k / 2) h) ∙ ap (side_value p.was) (sym (source_other v s k h)), rise_other v low high k h) in a in
+    let a : (side_value x k ≡ side_value p.was (source_of v s k)) × (rise v low high k ≡ pos 0) = (side_other x p.was k (p.others (k / 2) h) ∙ ap (side_value p.was) (sym (source_other v s k h)), rise_other v low high k h) in a in
     record {
       below = elim (which v k) [
-          plus e ↦ (let a = (on_plus e).0 in let b = ap (side_value p.was) (on_plus e).1 in let d = (on_plus e).2 in omega (arith, ints))
+        | plus e ↦ (let a = (on_plus e).0 in let b = ap (side_value p.was) (on_plus e).1 in let d = (on_plus e).2 in omega (arith, ints))
         | minus e ↦ (let a = (on_minus e).0 in let b = (on_minus e).1 in let d = (on_minus e).2 in omega (arith, ints))
         | other h ↦ (let a = (elsewhere h).0 in let b = (elsewhere h).1 in omega (arith, ints))
-        ];
+      ];
       at_high = λ e m. let a = (on_plus e).0 in let b = ap (side_value p.was) (on_plus e).1 in let d = (on_plus e).2 in omega (arith, ints);
       at_low = λ e m. let a = (on_minus e).0 in let b = (on_minus e).1 in let d = (on_minus e).2 in omega (arith, ints);
-      else_same = λ h. let a = (elsewhere h).0 in let b = (elsewhere h).1 in omega (arith, ints)
+      else_same = λ h. let a = (elsewhere h).0 in let b = (elsewhere h).1 in omega (arith, ints);
     }
 
 assigned-moved : (n : ℕ) (xs : List ℤ) (v s : ℕ) (low high : ℤ) (x : ℕ → ℤ) (more : ℤ) → IsPoint n xs x → Within low high more → Assigned n xs v s low high (moved x v (side_value x s +ℤ more))
@@ -364,7 +366,7 @@ assigned-moved n xs v s low high x more p w = record {
   others = λ u h. moved-there x v (side_value x s +ℤ more) u h;
   more = more;
   more_in = w;
-  value = moved-here x v (side_value x s +ℤ more)
+  value = moved-here x v (side_value x s +ℤ more);
 }
 
 assigned-same : (v s : ℕ) (low high : ℤ) (m : ℕ → ℕ → ℤ) (k l : ℕ) → k ≡ l → assigned v s low high m k l ≡ pos 0
@@ -375,7 +377,7 @@ assigned-apart v s low high m k l h = let e : nat_eq k l ≡ false = grind arith
 
 assign-holds : (n : ℕ) (xs : List ℤ) (v s : ℕ) (low high : ℤ) → s < 2 * n → (x : ℕ → ℤ) → Assigned n xs v s low high x → (k l : ℕ) → k < 2 * n → l < 2 * n → (side_value x l -ℤ side_value x k) ≤ℤ assigned v s low high (bound xs) k l
 assign-holds n xs v s low high hs x p k l hk hl = elim (cases_eq k l) [
-    inl e ↦ (let z = assigned-same v s low high (bound xs) k l e in let y = ap (side_value x) e in omega (arith, ints))
+  | inl e ↦ (let z = assigned-same v s low high (bound xs) k l e in let y = ap (side_value x) e in omega (arith, ints))
   | inr d ↦ (
       let z = assigned-apart v s low high (bound xs) k l d in
       let a = (rises n xs v s low high x p l).below in
@@ -384,7 +386,7 @@ assign-holds n xs v s low high hs x p k l hk hl = elim (cases_eq k l) [
       let so = ap (side_value p.was) (source-opposite v s k) ∙ side_value-opposite p.was (source_of v s k) in
       let w = (meets_of n xs p.was p.point).within (source_of v s k) (source_of v s l) (source-lt n v s k hs hk) (source-lt n v s l hs hl) in
       omega (arith, ints))
-  ]
+]
 
 -- the number at which the sides l and -k of v, if they are sides of v, rise the most
 record More (v : ℕ) (low high : ℤ) (k l : ℕ) : Type 0 where
@@ -398,22 +400,22 @@ more_of v low high k l o d =
     let high_in : Within low high high = record { above = o; below = omega (arith, ints) } in
     let low_in : Within low high low = record { above = omega (arith, ints); below = o } in
     elim (which v l) [
-      plus e ↦ record {
+      | plus e ↦ record {
         more = high;
         inside = high_in;
         left = elim (which v k) [ plus h ↦ absurd (d (omega arith)) | minus h ↦ inr (inl (omega arith, refl)) | other h ↦ inl (λ q. h (omega arith)) ];
-        right = inr (inl (e, refl))
+        right = inr (inl (e, refl));
       }
-    | minus e ↦ record {
+      | minus e ↦ record {
         more = low;
         inside = low_in;
         left = elim (which v k) [ plus h ↦ inr (inr (omega arith, refl)) | minus h ↦ absurd (d (omega arith)) | other h ↦ inl (λ q. h (omega arith)) ];
-        right = inr (inr (e, refl))
+        right = inr (inr (e, refl));
       }
-    | other e ↦ elim (which v k) [
-        plus h ↦ record { more = low; inside = low_in; left = inr (inr (omega arith, refl)); right = inl e }
-      | minus h ↦ record { more = high; inside = high_in; left = inr (inl (omega arith, refl)); right = inl e }
-      | other h ↦ record { more = low; inside = low_in; left = inl (λ q. h (omega arith)); right = inl e }
+      | other e ↦ elim (which v k) [
+        | plus h ↦ record { more = low; inside = low_in; left = inr (inr (omega arith, refl)); right = inl e }
+        | minus h ↦ record { more = high; inside = high_in; left = inr (inl (omega arith, refl)); right = inl e }
+        | other h ↦ record { more = low; inside = low_in; left = inl (λ q. h (omega arith)); right = inl e }
       ]
     ]
 
@@ -426,13 +428,13 @@ rises_most v s low high was x more k r (inr (inr h)) = r.at_low h.0 h.1
 assign-attained : (n : ℕ) (xs : List ℤ) (v s : ℕ) (low high : ℤ) → IsTight n xs → s < 2 * n → low ≤ℤ high → (k l : ℕ) → k < 2 * n → l < 2 * n → Attains (Assigned n xs v s low high) k l (assigned v s low high (bound xs) k l)
 unfolding assigned-moved more_of
 assign-attained n xs v s low high t hs o k l hk hl = elim (cases_eq k l) [
-    inl e ↦ (
+  | inl e ↦ (
       let low_in : Within low high low = record { above = omega (arith, ints); below = o } in
       let x = moved t.point v (side_value t.point s +ℤ low) in
       record {
         x = x;
         is = assigned-moved n xs v s low high t.point low t.is_point low_in;
-        gives = let z = assigned-same v s low high (bound xs) k l e in let y = ap (side_value x) e in omega (arith, ints)
+        gives = let z = assigned-same v s low high (bound xs) k l e in let y = ap (side_value x) e in omega (arith, ints);
       })
   | inr d ↦ (
       let a = attains_bound n (IsPoint n xs) xs t.attained (source_of v s k) (source_of v s l) (source-lt n v s k hs hk) (source-lt n v s l hs hl) in
@@ -443,25 +445,27 @@ assign-attained n xs v s low high t hs o k l hk hl = elim (cases_eq k l) [
         x = x;
         is = p;
         gives =
-          let z = assigned-apart v s low high (bound xs) k l d in
-          let b = rises_most v s low high a.x x c.more l (rises n xs v s low high x p l) c.right in
-          let e = rises_most v s low high a.x x c.more (opposite k) (rises n xs v s low high x p (opposite k)) c.left in
-          let sk = side_value-opposite x k in
-          let so = ap (side_value a.x) (source-opposite v s k) ∙ side_value-opposite a.x (source_of v s k) in
-          let g = a.gives in
-          omega (arith, ints)
+            let z = assigned-apart v s low high (bound xs) k l d in
+            let b = rises_most v s low high a.x x c.more l (rises n xs v s low high x p l) c.right in
+            let e = rises_most v s low high a.x x c.more (opposite k) (rises n xs v s low high x p (opposite k)) c.left in
+            let sk = side_value-opposite x k in
+            let so = ap (side_value a.x) (source-opposite v s k) ∙ side_value-opposite a.x (source_of v s k) in
+            let g = a.gives in
+            omega (arith, ints);
       })
-  ]
+]
 
 pub assign-least : (n : ℕ) (xs : List ℤ) (v s : ℕ) (low high : ℤ) → IsTight n xs → s < 2 * n → low ≤ℤ high → LeastOctagon n (Assigned n xs v s low high) (table (2 * n) (assigned v s low high (bound xs)))
 assign-least n xs v s low high t hs o = record {
   some = moved t.point v (side_value t.point s +ℤ low);
   some_is = assigned-moved n xs v s low high t.point low t.is_point (record { above = omega (arith, ints); below = o });
-  holds = λ x p. record { meets = λ k l hk here.
-      let a = assign-holds n xs v s low high hs x p k l hk (column-lt n k l hk here) in
-      let e = entry-table (2 * n) (assigned v s low high (bound xs)) k l hk here in
-      omega (arith, ints) };
+  holds = λ x p. record {
+    meets = λ k l hk here.
+        let a = assign-holds n xs v s low high hs x p k l hk (column-lt n k l hk here) in
+        let e = entry-table (2 * n) (assigned v s low high (bound xs)) k l hk here in
+        omega (arith, ints);
+  };
   attained = λ k l hk here.
       let a = assign-attained n xs v s low high t hs o k l hk (column-lt n k l hk here) in
-      record { x = a.x; is = a.is; gives = a.gives ∙ sym (entry-table (2 * n) (assigned v s low high (bound xs)) k l hk here) }
+      record { x = a.x; is = a.is; gives = a.gives ∙ sym (entry-table (2 * n) (assigned v s low high (bound xs)) k l hk here) };
 }

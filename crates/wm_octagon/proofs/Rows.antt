@@ -1,11 +1,11 @@
 -- The rows of a half table lie one after another in its list.
-use Rattle.std.proofs.Common.{◌≡◌, ◌⊎◌, inl, inr, ℕ, zero, suc, ◌+◌, ◌-◌, ◌*◌, ◌/◌, ◌%◌, ◌<◌, ◌≤◌, ℤ, pos, List, [], ◌∷◌, ◌++◌, length, get_or, take, drop, map, refl, sym, ◌∙◌, ap, subst, arith, rules, length-append, nat_lt, true, false}
+use Rattle.std.proofs.Common.{◌≡◌, ◌⊎◌, inl, inr, ℕ, zero, suc, ◌+◌, ◌-◌, ◌*◌, ◌/◌, ◌<◌, ◌≤◌, ℤ, pos, List, [], ◌∷◌, ◌++◌, length, get_or, take, drop, map, refl, sym, ◌∙◌, ap, subst, arith, rules, length-append, nat_lt, true, false}
 use Rattle.std.specs.List.{range_with_len}
 use borrow.Rule.Slice.PartMut.{put_mid}
-use Rattle.std.proofs.lemmas.List.{take-append-drop, get_or_append_left, get_or-append-add, ext_get_or, take_all, length-take-le, length-drop, places, get_or-take, get_or-drop}
+use Rattle.std.proofs.lemmas.List.{take-append-drop, get_or_append_left, get_or-append-add, length-take-le, length-drop, places, get_or-take, get_or-drop}
 use Rattle.std.proofs.lemmas.Bool.{cases_lt}
 use Rattle.std.proofs.lemmas.List.FromFn.{length-map-range_with_len, get_or-map-range_with_len, fill_by_all}
-use Rattle.wm_octagon.specs.Layout.{opposite, row_len, row_start, place, entry, bound, table}
+use Rattle.wm_octagon.specs.Layout.{opposite, row_len, row_start, place, entry, table}
 
 row_start-even : (q : ℕ) → row_start (2 * q) ≡ 2 * (q * q) + 2 * q
 row_start-even q = omega arith
@@ -43,8 +43,8 @@ pub row_end-le : (n k : ℕ) → k < n → row_start k + row_len k ≤ row_start
 row_end-le zero k h = absurd (omega arith)
 row_end-le (suc n) k h =
     elim (cases_lt k n) [
-      inl below ↦ (let e = row_end-le n k below in let m = row_start-more n in omega arith)
-    | inr at ↦ (let e : k ≡ n = omega arith in subst (λ j. row_start j + row_len j ≤ row_start (suc n)) (sym e) (let m = row_start-more n in omega arith))
+      | inl below ↦ (let e = row_end-le n k below in let m = row_start-more n in omega arith)
+      | inr at ↦ (let e : k ≡ n = omega arith in subst (λ j. row_start j + row_len j ≤ row_start (suc n)) (sym e) (let m = row_start-more n in omega arith))
     ]
 
 pub length-table : (n : ℕ) (f : ℕ → ℕ → ℤ) → length (table n f) ≡ row_start n
@@ -58,19 +58,19 @@ pub entry-table : (n : ℕ) (f : ℕ → ℕ → ℤ) (k l : ℕ) → k < n → 
 entry-table zero f k l h j = absurd (omega arith)
 entry-table (suc n) f k l h j =
     elim (cases_lt k n) [
-      inl below ↦
-        (let e = row_end-le n k below in
-         let m = length-table n f in
-         get_or_append_left (table n f) (map (f n) (range_with_len 0 (row_len n))) (pos 0) (l + row_start k) (omega arith)
-         ∙ entry-table n f k l below j)
-    | inr at ↦
-        (let e : k ≡ n = omega arith in
-         let m = length-table n f in
-         let p : l + row_start k ≡ length (table n f) + l = ap (λ i. l + row_start i) e ∙ omega arith in
-         ap (λ i. get_or (table (suc n) f) i (pos 0)) p
-         ∙ get_or-append-add (table n f) (map (f n) (range_with_len 0 (row_len n))) l (pos 0)
-         ∙ get_or-map-range_with_len (f n) 0 (row_len n) l l (pos 0) (subst (λ i. l < row_len i) e j) (omega arith)
-         ∙ ap (λ i. f i l) (sym e))
+      | inl below ↦
+          (let e = row_end-le n k below in
+          let m = length-table n f in
+          get_or_append_left (table n f) (map (f n) (range_with_len 0 (row_len n))) (pos 0) (l + row_start k) (omega arith)
+          ∙ entry-table n f k l below j)
+      | inr at ↦
+          (let e : k ≡ n = omega arith in
+          let m = length-table n f in
+          let p : l + row_start k ≡ length (table n f) + l = ap (λ i. l + row_start i) e ∙ omega arith in
+          ap (λ i. get_or (table (suc n) f) i (pos 0)) p
+          ∙ get_or-append-add (table n f) (map (f n) (range_with_len 0 (row_len n))) l (pos 0)
+          ∙ get_or-map-range_with_len (f n) 0 (row_len n) l l (pos 0) (subst (λ i. l < row_len i) e j) (omega arith)
+          ∙ ap (λ i. f i l) (sym e))
     ]
 
 -- a list of the right length with these numbers is the table
@@ -79,9 +79,9 @@ table-all zero f xs h same = length-zero xs h
 table-all (suc n) f xs h same =
     let m = row_start-more n in
     let front = table-all n f (take (row_start n) xs) (length-take-le (row_start n) xs (omega arith))
-        (λ k l below j. let e = row_end-le n k below in get_or-take (row_start n) xs (l + row_start k) (pos 0) (omega arith) ∙ same k l (omega arith) j) in
+    (λ k l below j. let e = row_end-le n k below in get_or-take (row_start n) xs (l + row_start k) (pos 0) (omega arith) ∙ same k l (omega arith) j) in
     let back = fill_by_all (f n) (drop (row_start n) xs) (row_len n) (pos 0) (length-drop (row_start n) xs ∙ omega arith)
-        (λ l j. get_or-drop (row_start n) xs l (pos 0) ∙ ap (λ i. get_or xs i (pos 0)) (omega arith) ∙ same n l (omega arith) j) in
+    (λ l j. get_or-drop (row_start n) xs l (pos 0) ∙ ap (λ i. get_or xs i (pos 0)) (omega arith) ∙ same n l (omega arith) j) in
     sym (take-append-drop (row_start n) xs) ∙ ap (λ ys. ys ++ drop (row_start n) xs) front ∙ ap (λ ys. table n f ++ ys) back
 
 -- a part that is read, and what stands in a list after a part was written
@@ -108,9 +108,9 @@ place-lt n k l h j = let e = row_end-le n k h in omega arith
 pub place_in : (n k l : ℕ) → k < 2 * n → l < 2 * n → place k l < row_start (2 * n)
 unfolding place
 place_in n k l h j = elim (cases_lt l (row_len k)) [
-    inl here ↦ (let e : nat_lt l (row_len k) ≡ true = grind arith in rw e (place-lt (2 * n) k l h here))
+  | inl here ↦ (let e : nat_lt l (row_len k) ≡ true = grind arith in rw e (place-lt (2 * n) k l h here))
   | inr there ↦ (let e : nat_lt l (row_len k) ≡ false = grind arith in rw e (place-lt (2 * n) (opposite l) (opposite k) (omega arith) (omega arith)))
-  ]
+]
 
 pub place_below : (k l : ℕ) → k < 64 → l < 64 → place k l < 2112
 place_below k l h j = place_in 32 k l h j

@@ -1,10 +1,10 @@
 -- Numbers of at most 2^42 in size are read back as they are, and their sums fit.
-use Rattle.std.proofs.Common.{◌≡◌, ℕ, ℤ, pos, negsuc, ◌+ℤ◌, arith, rules, to_z, of_z, w64, ◌+◌, ◌-◌, ◌<◌, ◌≤◌, zero, suc, List, refl, get_or, set, length, map, ap, sym, subst, ◌∙◌, ◌⊎◌, inl, inr, ◌++◌}
+use Rattle.std.proofs.Common.{◌≡◌, ℕ, ℤ, pos, negsuc, ◌+ℤ◌, ◌-ℤ◌, neg_ℤ, arith, rules, to_z, of_z, w64, ◌<◌, zero, suc, refl, get_or, length, map, sym, subst, inl, inr}
 use Rattle.std.specs.List.{range_with_len}
-use Rattle.std.proofs.lemmas.Bool.{cases_lt, cases_eq}
-use Rattle.std.proofs.lemmas.List.{get_or_append_left, get_or-append_right, get_or_past, get_or-set_same, get_or-set_other, set_past}
+use Rattle.std.proofs.lemmas.Bool.{cases_lt}
+use Rattle.std.proofs.lemmas.List.{get_or_append_left, get_or-append_right, get_or_past}
 use Rattle.std.proofs.lemmas.List.FromFn.{length-map-range_with_len, get_or-map-range_with_len}
-use Rattle.wm_octagon.specs.Layout.{row_len, row_start, table}
+use Rattle.wm_octagon.specs.Layout.{row_len, table}
 use Rattle.wm_octagon.specs.Closing.{half_of}
 use Rattle.wm_octagon.specs.Medium.{IsMedium, IsRound}
 use Rattle.std.specs.Int.{int_min}
@@ -13,7 +13,6 @@ use mir.Val.{SFits}
 use lib.Signed.{lt_z, ◌<ℤ◌, ◌≤ℤ◌}
 use Rattle.std.specs.Prelude.{int_le, true, false}
 use Rattle.wm_octagon.proofs.Tables.{half_le, le_half}
-use Rattle.wm_octagon.proofs.Rows.{length-table}
 use Rattle.std.proofs.lemmas.Int.{ints, clamps}
 use Rattle.wm_octagon.specs.HalfTable.{IsSmall}
 
@@ -26,18 +25,18 @@ small-zero = record { above = omega (arith, ints); below = omega (arith, ints) }
 -- a row and a table of small numbers
 small-row : (f : ℕ → ℤ) (n : ℕ) → ((l : ℕ) → l < n → IsSmall (f l)) → (i : ℕ) → IsSmall (get_or (map f (range_with_len 0 n)) i (pos 0))
 small-row f n s i = elim (cases_lt i n) [
-    inl here ↦ subst IsSmall (sym (get_or-map-range_with_len f 0 n i i (pos 0) here (omega arith))) (s i here)
+  | inl here ↦ subst IsSmall (sym (get_or-map-range_with_len f 0 n i i (pos 0) here (omega arith))) (s i here)
   | inr past ↦ (let e = length-map-range_with_len f 0 n in subst IsSmall (sym (get_or_past (map f (range_with_len 0 n)) i (pos 0) (omega arith))) small-zero)
-  ]
+]
 
 pub small-table : (n : ℕ) (f : ℕ → ℕ → ℤ) → ((k l : ℕ) → k < n → l < row_len k → IsSmall (f k l)) → (i : ℕ) → IsSmall (get_or (table n f) i (pos 0))
 small-table zero f s i = small-zero
 small-table (suc n) f s i = elim (cases_lt i (length (table n f))) [
-    inl before ↦ subst IsSmall (sym (get_or_append_left (table n f) (map (f n) (range_with_len 0 (row_len n))) (pos 0) i before))
-        (small-table n f (λ k l h j. s k l (omega arith) j) i)
+  | inl before ↦ subst IsSmall (sym (get_or_append_left (table n f) (map (f n) (range_with_len 0 (row_len n))) (pos 0) i before))
+      (small-table n f (λ k l h j. s k l (omega arith) j) i)
   | inr after ↦ subst IsSmall (sym (get_or-append_right (table n f) (map (f n) (range_with_len 0 (row_len n))) (length (table n f)) i (pos 0) refl after))
-        (small-row (f n) (row_len n) (λ l j. s n l (omega arith) j) _)
-  ]
+      (small-row (f n) (row_len n) (λ l j. s n l (omega arith) j) _)
+]
 
 -- half of a small number is small
 pub half_small : (z : ℤ) → IsSmall z → IsSmall (half_of z)
@@ -90,3 +89,9 @@ not_le a b h = grind (arith, ints)
 
 pub does_le : (a b : ℤ) → b ≤ℤ a → int_le b a ≡ true
 does_le a b h = grind (arith, ints)
+
+pub small_neg : (z : ℤ) → IsSmall (neg_ℤ z) → IsSmall z
+small_neg z s = let a = s.above in let b = s.below in record { above = omega (arith, ints); below = omega (arith, ints) }
+
+pub neg-sub : (z : ℤ) → pos 0 -ℤ z ≡ neg_ℤ z
+neg-sub z = omega (arith, ints)

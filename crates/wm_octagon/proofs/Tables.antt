@@ -1,7 +1,7 @@
 -- Tables of bounds in which no bound follows more tightly from others, and that one more bound leaves them so.
-use Rattle.std.proofs.Common.{◌≡◌, ◌⊎◌, inl, inr, ℕ, zero, suc, ◌+◌, ◌-◌, ◌*◌, ◌/◌, ◌%◌, ◌<◌, ◌≤◌, ◌≢◌, ℤ, pos, negsuc, ◌+ℤ◌, ◌-ℤ◌, ◌≤ℤ◌, ◌<ℤ◌, neg_ℤ, refl, sym, ◌∙◌, ap, subst, arith}
-use Rattle.std.proofs.lemmas.Int.{ints, clamps, by_lt_z}
-use Rattle.std.specs.Int.{int_min, int_div_euclid}
+use Rattle.std.proofs.Common.{◌≡◌, ◌⊎◌, inl, inr, ℕ, ◌*◌, ◌<◌, ℤ, pos, negsuc, ◌+ℤ◌, ◌≤ℤ◌, sym, ◌∙◌, ap, subst, arith}
+use Rattle.std.proofs.lemmas.Int.{ints, clamps}
+use Rattle.std.specs.Int.{int_min}
 use Rattle.wm_octagon.specs.Layout.{opposite}
 use Rattle.wm_octagon.specs.Closing.{half_of, top, through, with_bound, joined, closed}
 
@@ -85,7 +85,7 @@ around : (n : ℕ) (m : ℕ → ℕ → ℤ) (i j : ℕ) (c : ℤ) → CanAdd n 
 around n m i j c a =
     let even_i = a.table.even i a.i_in in
     let even_j : m j (opposite j) ≡ top m (opposite j) +ℤ top m (opposite j) =
-        ap (λ k. m k (opposite j)) (sym (opposite-opposite j)) ∙ a.table.even (opposite j) (opposite-lt n j a.j_in) in
+    ap (λ k. m k (opposite j)) (sym (opposite-opposite j)) ∙ a.table.even (opposite j) (opposite-lt n j a.j_in) in
     let joined_ji = a.table.join j i a.j_in a.i_in in
     let room = a.room in
     record {
@@ -94,7 +94,7 @@ around n m i j c a =
       round = omega (arith, ints);
       even_i = even_i;
       even_j = even_j;
-      joined_ji = joined_ji
+      joined_ji = joined_ji;
     }
 
 -- how the two rows of the new bound stand to one more side
@@ -121,7 +121,7 @@ rows n m i j c a k hk =
       jk_ki = omega (arith, ints);
       ik_kj = omega (arith, ints);
       ik_ki = omega (arith, ints);
-      jk_kj = omega (arith, ints)
+      jk_kj = omega (arith, ints);
     }
 
 -- a way from k goes no further than one by way of r
@@ -150,7 +150,7 @@ ways n m i j c a k hk =
     let r = rows n m i j c a k hk in
     record {
       j_to_j = j_to_j-plain c (m j k) (m (opposite i) k) (m j (opposite k)) (m (opposite i) (opposite k)) (m j i) (m j (opposite j)) (m (opposite i) i) f.room f.round r.jk_ki r.jk_kj;
-      i_to_i = j_to_j-plain c (m (opposite i) k) (m j k) (m (opposite i) (opposite k)) (m j (opposite k)) (m j i) (m (opposite i) i) (m j (opposite j)) f.room (let h = f.round in omega (arith, ints)) r.ik_kj r.ik_ki
+      i_to_i = j_to_j-plain c (m (opposite i) k) (m j k) (m (opposite i) (opposite k)) (m j (opposite k)) (m j i) (m (opposite i) i) (m j (opposite j)) f.room (let h = f.round in omega (arith, ints)) r.ik_kj r.ik_ki;
     }
 
 -- a way into j, on to k, and from there into -i: no shorter than a way into -i
@@ -169,7 +169,7 @@ onward n m i j c a k r hr =
     let w = rows n m i j c a r hr in
     record {
       j_then_i = onward-plain c (m (opposite i) (opposite k)) (m j (opposite k)) (m j r) (m j (opposite r)) (m (opposite i) (opposite r)) (m j i) (m j (opposite j)) (m (opposite i) i) f.room f.round w.jk_ki w.jk_kj;
-      i_then_j = onward-plain c (m j (opposite k)) (m (opposite i) (opposite k)) (m (opposite i) r) (m (opposite i) (opposite r)) (m j (opposite r)) (m j i) (m (opposite i) i) (m j (opposite j)) f.room (let h = f.round in omega (arith, ints)) w.ik_kj w.ik_ki
+      i_then_j = onward-plain c (m j (opposite k)) (m (opposite i) (opposite k)) (m (opposite i) r) (m (opposite i) (opposite r)) (m j (opposite r)) (m j i) (m (opposite i) i) (m j (opposite j)) f.room (let h = f.round in omega (arith, ints)) w.ik_kj w.ik_ki;
     }
 
 -- the three bounds of which the new one is the least
@@ -185,9 +185,9 @@ least3 a b c = record {
   second = omega (arith, ints, clamps);
   third = omega (arith, ints, clamps);
   one_of = elim (min_is a (int_min b c)) [
-      inl e ↦ inl e
+    | inl e ↦ inl e
     | inr e ↦ elim (min_is b c) [ inl f ↦ inr (inl (e ∙ f)) | inr f ↦ inr (inr (e ∙ f)) ]
-    ]
+  ];
 }
 
 bounded : (m : ℕ → ℕ → ℤ) (i j : ℕ) (c : ℤ) (k l : ℕ) → Least3 (with_bound m i j c k l) (m k l) (to_j m i j c k +ℤ m j l) (to_i m i j c k +ℤ m (opposite i) l)
@@ -216,10 +216,10 @@ with_bound-triangle n m i j c a k r l hk hr hl =
     let t4 = t.triangle j r l a.j_in hr hl in
     let t5 = t.triangle (opposite i) r l oi hr hl in
     elim kr.one_of [
-      inl e ↦ elim rl.one_of [ inl f ↦ omega (arith, ints) | inr g ↦ elim g [ inl f ↦ omega (arith, ints) | inr f ↦ omega (arith, ints) ] ]
-    | inr h ↦ elim h [
-        inl e ↦ elim rl.one_of [ inl f ↦ omega (arith, ints) | inr g ↦ elim g [ inl f ↦ omega (arith, ints) | inr f ↦ omega (arith, ints) ] ]
-      | inr e ↦ elim rl.one_of [ inl f ↦ omega (arith, ints) | inr g ↦ elim g [ inl f ↦ omega (arith, ints) | inr f ↦ omega (arith, ints) ] ]
+      | inl e ↦ elim rl.one_of [ inl f ↦ omega (arith, ints) | inr g ↦ elim g [ inl f ↦ omega (arith, ints) | inr f ↦ omega (arith, ints) ] ]
+      | inr h ↦ elim h [
+        | inl e ↦ elim rl.one_of [ inl f ↦ omega (arith, ints) | inr g ↦ elim g [ inl f ↦ omega (arith, ints) | inr f ↦ omega (arith, ints) ] ]
+        | inr e ↦ elim rl.one_of [ inl f ↦ omega (arith, ints) | inr g ↦ elim g [ inl f ↦ omega (arith, ints) | inr f ↦ omega (arith, ints) ] ]
       ]
     ]
 
@@ -246,7 +246,7 @@ turned n m i j c a k l hk hl =
     let p = turned-plain c (m (opposite i) (opposite k)) (m j (opposite k)) (m j l) (m (opposite i) l) (m (opposite i) i) (m j (opposite j)) (m k l) in
     let ll = opposite-opposite l in
     let q : with_bound m i j c (opposite l) (opposite k) ≡ int_min (m (opposite l) (opposite k)) (int_min (int_min (m (opposite i) l +ℤ c) (m j l +ℤ (c +ℤ c +ℤ m (opposite i) i)) +ℤ m j (opposite k)) (int_min (m j l +ℤ c) (m (opposite i) l +ℤ (c +ℤ c +ℤ m j (opposite j))) +ℤ m (opposite i) (opposite k))) =
-        ap (λ p. int_min (m (opposite l) (opposite k)) (int_min (int_min (m (opposite i) p +ℤ c) (m j p +ℤ (c +ℤ c +ℤ m (opposite i) i)) +ℤ m j (opposite k)) (int_min (m j p +ℤ c) (m (opposite i) p +ℤ (c +ℤ c +ℤ m j (opposite j))) +ℤ m (opposite i) (opposite k)))) ll in
+    ap (λ p. int_min (m (opposite l) (opposite k)) (int_min (int_min (m (opposite i) p +ℤ c) (m j p +ℤ (c +ℤ c +ℤ m (opposite i) i)) +ℤ m j (opposite k)) (int_min (m j p +ℤ c) (m (opposite i) p +ℤ (c +ℤ c +ℤ m j (opposite j))) +ℤ m (opposite i) (opposite k)))) ll in
     subst (λ z. with_bound m i j c k l ≤ℤ z) (sym q) (subst (λ z. with_bound m i j c k l ≤ℤ int_min z (int_min (int_min (m (opposite i) l +ℤ c) (m j l +ℤ (c +ℤ c +ℤ m (opposite i) i)) +ℤ m j (opposite k)) (int_min (m j l +ℤ c) (m (opposite i) l +ℤ (c +ℤ c +ℤ m j (opposite j))) +ℤ m (opposite i) (opposite k)))) e p)
 
 with_bound-coherent : (n : ℕ) (m : ℕ → ℕ → ℤ) (i j : ℕ) (c : ℤ) → CanAdd n m i j c → (k l : ℕ) → k < 2 * n → l < 2 * n → with_bound m i j c k l ≡ with_bound m i j c (opposite l) (opposite k)
@@ -254,8 +254,8 @@ with_bound-coherent n m i j c a k l hk hl =
     let there = turned n m i j c a k l hk hl in
     let here = turned n m i j c a (opposite l) (opposite k) (opposite-lt n l hl) (opposite-lt n k hk) in
     let here' : with_bound m i j c (opposite l) (opposite k) ≤ℤ with_bound m i j c k l =
-        subst (λ p. with_bound m i j c (opposite l) (opposite k) ≤ℤ with_bound m i j c k p) (opposite-opposite l)
-          (subst (λ p. with_bound m i j c (opposite l) (opposite k) ≤ℤ with_bound m i j c p (opposite (opposite l))) (opposite-opposite k) here) in
+    subst (λ p. with_bound m i j c (opposite l) (opposite k) ≤ℤ with_bound m i j c k p) (opposite-opposite l)
+    (subst (λ p. with_bound m i j c (opposite l) (opposite k) ≤ℤ with_bound m i j c p (opposite (opposite l))) (opposite-opposite k) here) in
     omega (arith, ints)
 
 -- ---- halving the bound of a side and the one of its opposite leaves room for a whole number
@@ -271,20 +271,20 @@ own_bound-plain own a b c jj ii =
     record {
       once = omega (arith, ints, clamps);
       cases = elim l3.one_of [
-          inl e ↦ inl e
+        | inl e ↦ inl e
         | inr g ↦ elim g [
-            inl e ↦ elim (min_is (a +ℤ c) (b +ℤ (c +ℤ c +ℤ ii))) [ inl f ↦ inr (inl (omega (arith, ints))) | inr f ↦ inr (inr (inl (omega (arith, ints)))) ]
+          | inl e ↦ elim (min_is (a +ℤ c) (b +ℤ (c +ℤ c +ℤ ii))) [ inl f ↦ inr (inl (omega (arith, ints))) | inr f ↦ inr (inr (inl (omega (arith, ints)))) ]
           | inr e ↦ elim (min_is (b +ℤ c) (a +ℤ (c +ℤ c +ℤ jj))) [ inl f ↦ inr (inl (omega (arith, ints))) | inr f ↦ inr (inr (inr (omega (arith, ints)))) ]
-          ]
         ]
+      ];
     }
 
 own_bound : (m : ℕ → ℕ → ℤ) (i j : ℕ) (c : ℤ) (k : ℕ) → OwnBound (with_bound m i j c (opposite k) k) (m (opposite k) k) (m (opposite i) k) (m j k) c (m j (opposite j)) (m (opposite i) i)
 unfolding with_bound through
 own_bound m i j c k =
     subst (λ p. OwnBound (int_min (m (opposite k) k) (int_min (int_min (m (opposite i) p +ℤ c) (m j p +ℤ (c +ℤ c +ℤ m (opposite i) i)) +ℤ m j k) (int_min (m j p +ℤ c) (m (opposite i) p +ℤ (c +ℤ c +ℤ m j (opposite j))) +ℤ m (opposite i) k))) (m (opposite k) k) (m (opposite i) k) (m j k) c (m j (opposite j)) (m (opposite i) i))
-      (sym (opposite-opposite k))
-      (own_bound-plain (m (opposite k) k) (m (opposite i) k) (m j k) c (m j (opposite j)) (m (opposite i) i))
+    (sym (opposite-opposite k))
+    (own_bound-plain (m (opposite k) k) (m (opposite i) k) (m j k) c (m j (opposite j)) (m (opposite i) i))
 
 -- where a number is even, or the other is, half of each leaves room
 half_even : (u v t : ℤ) → u ≡ t +ℤ t → pos 0 ≤ℤ (u +ℤ v) → pos 0 ≤ℤ (half_of u +ℤ half_of v)
@@ -324,21 +324,21 @@ halves_meet-plain : (u v own own' a b a' b' c jj ii ji ti tj t t' : ℤ)
     → pos 0 ≤ℤ (half_of u +ℤ half_of v)
 halves_meet-plain u v own own' a b a' b' c jj ii ji ti tj t t' x y h f1 f2 f3 f4 f5 f6 ei ej e e' =
     elim x.cases [
-      inl p ↦ half_even u v t (p ∙ e) h
-    | inr g ↦ elim g [
-        inl p ↦ elim y.cases [
-            inl q ↦ half_even_right u v t' (q ∙ e') h
+      | inl p ↦ half_even u v t (p ∙ e) h
+      | inr g ↦ elim g [
+        | inl p ↦ elim y.cases [
+          | inl q ↦ half_even_right u v t' (q ∙ e') h
           | inr k ↦ elim k [
-              inl q ↦ half_once u v a b a' b' c ji ti tj p q h f1 f2 (omega (arith, ints)) (omega (arith, ints)) f5 f6
+            | inl q ↦ half_once u v a b a' b' c ji ti tj p q h f1 f2 (omega (arith, ints)) (omega (arith, ints)) f5 f6
             | inr k ↦ elim k [
-                inl q ↦ half_even_right u v (b' +ℤ c +ℤ ti) (omega (arith, ints)) h
+              | inl q ↦ half_even_right u v (b' +ℤ c +ℤ ti) (omega (arith, ints)) h
               | inr q ↦ half_even_right u v (a' +ℤ c +ℤ tj) (omega (arith, ints)) h
-              ]
             ]
           ]
-      | inr g ↦ elim g [
-          inl p ↦ half_even u v (b +ℤ c +ℤ ti) (omega (arith, ints)) h
-        | inr p ↦ half_even u v (a +ℤ c +ℤ tj) (omega (arith, ints)) h
+        ]
+        | inr g ↦ elim g [
+          | inl p ↦ half_even u v (b +ℤ c +ℤ ti) (omega (arith, ints)) h
+          | inr p ↦ half_even u v (a +ℤ c +ℤ tj) (omega (arith, ints)) h
         ]
       ]
     ]
@@ -351,14 +351,14 @@ halves_meet n m i j c a k hk =
     let f = around n m i j c a in
     let r = rows n m i j c a k hk in
     let sum : pos 0 ≤ℤ (with_bound m i j c (opposite k) k +ℤ with_bound m i j c (opposite (opposite k)) (opposite k)) =
-        let tri = with_bound-triangle n m i j c a (opposite k) k (opposite k) ok hk ok in
-        let same = with_bound-same n m i j c a (opposite k) ok in
-        let turn = ap (λ p. with_bound m i j c p (opposite k)) (opposite-opposite k) in
-        omega (arith, ints) in
+    let tri = with_bound-triangle n m i j c a (opposite k) k (opposite k) ok hk ok in
+    let same = with_bound-same n m i j c a (opposite k) ok in
+    let turn = ap (λ p. with_bound m i j c p (opposite k)) (opposite-opposite k) in
+    omega (arith, ints) in
     halves_meet-plain (with_bound m i j c (opposite k) k) (with_bound m i j c (opposite (opposite k)) (opposite k)) (m (opposite k) k) (m (opposite (opposite k)) (opposite k))
-      (m (opposite i) k) (m j k) (m (opposite i) (opposite k)) (m j (opposite k)) c (m j (opposite j)) (m (opposite i) i) (m j i)
-      (half_of (m (opposite i) i)) (half_of (m (opposite (opposite j)) (opposite j))) (half_of (m (opposite k) k)) (half_of (m (opposite (opposite k)) (opposite k)))
-      (own_bound m i j c k) (own_bound m i j c (opposite k)) sum r.jk_ki r.ik_kj r.ik_ki r.jk_kj f.room f.joined_ji f.even_i f.even_j (t.even k hk) (t.even (opposite k) ok)
+    (m (opposite i) k) (m j k) (m (opposite i) (opposite k)) (m j (opposite k)) c (m j (opposite j)) (m (opposite i) i) (m j i)
+    (half_of (m (opposite i) i)) (half_of (m (opposite (opposite j)) (opposite j))) (half_of (m (opposite k) k)) (half_of (m (opposite (opposite k)) (opposite k)))
+    (own_bound m i j c k) (own_bound m i j c (opposite k)) sum r.jk_ki r.ik_kj r.ik_ki r.jk_kj f.room f.joined_ji f.even_i f.even_j (t.even k hk) (t.even (opposite k) ok)
 
 -- ---- the joining pass keeps all
 
@@ -378,7 +378,7 @@ near n m i j c a = record {
   same = with_bound-same n m i j c a;
   coherent = with_bound-coherent n m i j c a;
   triangle = with_bound-triangle n m i j c a;
-  meet = halves_meet n m i j c a
+  meet = halves_meet n m i j c a;
 }
 
 -- a side's greatest value goes no further than one by way of r
@@ -405,7 +405,7 @@ unfolding joined
 least2 m k l = record {
   first = min_le_left _ _;
   second = min_le_right _ _;
-  one_of = min_is _ _
+  one_of = min_is _ _;
 }
 
 joined-same : (n : ℕ) (m : ℕ → ℕ → ℤ) → IsNearTable n m → (k : ℕ) → k < 2 * n → joined m k k ≡ pos 0
@@ -427,8 +427,8 @@ joined-coherent n m t k l hk hl =
     let b1 = here.first in
     let b2 = here.second in
     elim there.one_of [
-      inl p ↦ elim here.one_of [ inl q ↦ omega (arith, ints) | inr q ↦ omega (arith, ints) ]
-    | inr p ↦ elim here.one_of [ inl q ↦ omega (arith, ints) | inr q ↦ omega (arith, ints) ]
+      | inl p ↦ elim here.one_of [ inl q ↦ omega (arith, ints) | inr q ↦ omega (arith, ints) ]
+      | inr p ↦ elim here.one_of [ inl q ↦ omega (arith, ints) | inr q ↦ omega (arith, ints) ]
     ]
 
 joined-triangle : (n : ℕ) (m : ℕ → ℕ → ℤ) → IsNearTable n m → (k r l : ℕ) → k < 2 * n → r < 2 * n → l < 2 * n → joined m k l ≤ℤ (joined m k r +ℤ joined m r l)
@@ -446,8 +446,8 @@ joined-triangle n m t k r l hk hr hl =
     let right = top_le n m t l r hl hr in
     let meet = t.meet r hr in
     elim kr.one_of [
-      inl p ↦ elim rl.one_of [ inl q ↦ omega (arith, ints) | inr q ↦ omega (arith, ints) ]
-    | inr p ↦ elim rl.one_of [ inl q ↦ omega (arith, ints) | inr q ↦ omega (arith, ints) ]
+      | inl p ↦ elim rl.one_of [ inl q ↦ omega (arith, ints) | inr q ↦ omega (arith, ints) ]
+      | inr p ↦ elim rl.one_of [ inl q ↦ omega (arith, ints) | inr q ↦ omega (arith, ints) ]
     ]
 
 joined-own : (m : ℕ → ℕ → ℤ) (k : ℕ) → joined m (opposite k) k ≡ top m k +ℤ top m k
@@ -473,7 +473,7 @@ joined-table n m t = record {
       let s = (least2 m k l).second in
       let e = top-joined m (opposite k) in
       let f = top-joined m l in
-      omega (arith, ints)
+      omega (arith, ints);
 }
 
 -- one more bound that does not contradict a table leaves a table

@@ -1,5 +1,5 @@
 -- Changes of all bounds at once, and the points that they are to leave.
-use Rattle.std.specs.Prelude.{ℕ, ◌≡◌, ◌≢◌, ◌+◌, ◌*◌, ◌/◌, ◌<◌, ◌⊎◌, nat_eq, Bool, ◌||◌, ℤ, pos, neg_ℤ, ◌+ℤ◌, ◌-ℤ◌, List, length, slice_index_or, if◌then◌else◌}
+use Rattle.std.specs.Prelude.{ℕ, ◌≡◌, ◌≢◌, ◌+◌, ◌*◌, ◌/◌, nat_eq, ◌||◌, ℤ, pos, neg_ℤ, ◌+ℤ◌, List, if◌then◌else◌}
 use Rattle.wm_numbers.specs.Within.{Within}
 use Rattle.wm_octagon.specs.Layout.{opposite}
 use Rattle.wm_octagon.specs.Points.{side_value, IsPoint}

@@ -22,9 +22,9 @@ through near far around c k = int_min (near (opposite k) +ℤ c) (far (opposite 
 unfoldable pub with_bound : (ℕ → ℕ → ℤ) → ℕ → ℕ → ℤ → ℕ → ℕ → ℤ
 with_bound m i j c k l =
     int_min (m k l)
-      (int_min
-        (through (m (opposite i)) (m j) (c +ℤ c +ℤ m (opposite i) i) c k +ℤ m j l)
-        (through (m j) (m (opposite i)) (c +ℤ c +ℤ m j (opposite j)) c k +ℤ m (opposite i) l))
+    (int_min
+    (through (m (opposite i)) (m j) (c +ℤ c +ℤ m (opposite i) i) c k +ℤ m j l)
+    (through (m j) (m (opposite i)) (c +ℤ c +ℤ m j (opposite j)) c k +ℤ m (opposite i) l))
 
 -- a bound of l less k, and the bounds of l and -k alone, made even and joined
 unfoldable pub joined : (ℕ → ℕ → ℤ) → ℕ → ℕ → ℤ

@@ -1,7 +1,7 @@
 -- How the bounds between the sides of n variables lie in one list of 2n(n + 1) numbers.
 -- Side 2v is the variable v and side 2v + 1 is -v. The bound of l less k is that of -k less -l, so one of the two
 -- is kept: row k has the columns from 0 to the greater of k and its opposite.
-use Rattle.std.specs.Prelude.{ℕ, suc, zero, ◌+◌, ◌-◌, ◌*◌, ◌/◌, ◌%◌, ℤ, pos, List, [], ◌∷◌, ◌++◌, slice_index_or, nat_lt, map, if◌then◌else◌}
+use Rattle.std.specs.Prelude.{ℕ, suc, zero, ◌+◌, ◌-◌, ◌*◌, ◌/◌, ◌%◌, ℤ, pos, List, [], ◌++◌, slice_index_or, nat_lt, map, if◌then◌else◌}
 use Rattle.std.specs.List.{range_with_len}
 
 -- the side of the same variable with the other sign

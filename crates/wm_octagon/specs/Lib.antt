@@ -4,4 +4,5 @@ pub mod HalfTable
 pub mod Layout
 pub mod Medium
 pub mod Points
+pub mod Ranges
 pub mod Ways

@@ -35,3 +35,7 @@ pub record AreSized (from_j from_i to_j to_i tops : List ℤ) : Type 0 where
   pub j_ways : (k : ℕ) → IsMedium (at to_j k)
   pub i_ways : (k : ℕ) → IsMedium (at to_i k)
   pub sides : (k : ℕ) → IsMedium (at tops k)
+
+-- each number of the list is small
+pub record AllSmall (xs : List ℤ) : Type 0 where
+  pub each : (k : ℕ) → IsSmall (at xs k)

@@ -51,8 +51,20 @@ impl Closing {
         let sides = half.sides();
         let from_j = half.row(j);
         let from_i = half.row(opposite(i));
-        let to_j = ways(&from_i, &from_j, c, round_trip(c, half.bound(opposite(i), i)), sides);
-        let to_i = ways(&from_j, &from_i, c, round_trip(c, half.bound(j, opposite(j))), sides);
+        let to_j = ways(
+            &from_i,
+            &from_j,
+            c,
+            round_trip(c, half.bound(opposite(i), i)),
+            sides,
+        );
+        let to_i = ways(
+            &from_j,
+            &from_i,
+            c,
+            round_trip(c, half.bound(j, opposite(j))),
+            sides,
+        );
         let tops = new_tops(half, &to_j, &from_j, &to_i, &from_i);
         Closing {
             from_j,
@@ -123,7 +135,13 @@ fn way(near: i64, far: i64, c: i64, around: i64) -> i64
 
 /// The bounds of one side less each other by way of the new bound `c`: once, or after a way round that costs `around`.
 #[inline(always)]
-fn ways(near: &[i64; MOST_SIDES], far: &[i64; MOST_SIDES], c: i64, around: i64, sides: usize) -> [i64; MOST_SIDES]
+fn ways(
+    near: &[i64; MOST_SIDES],
+    far: &[i64; MOST_SIDES],
+    c: i64,
+    around: i64,
+    sides: usize,
+) -> [i64; MOST_SIDES]
     requires few { sides ≤ 64 }
     requires even { sides % 2 ≡ 0 }
     requires near { (k : ℕ) → IsSmall (at near.now k) }
@@ -156,7 +174,13 @@ fn half_least(bound: i64, to_j: i64, from_j: i64, to_i: i64, from_i: i64) -> i64
 
 /// The greatest value that the old bounds and the ways by the new one leave each side.
 #[inline(always)]
-fn new_tops(half: &Half, to_j: &[i64; MOST_SIDES], from_j: &[i64; MOST_SIDES], to_i: &[i64; MOST_SIDES], from_i: &[i64; MOST_SIDES]) -> [i64; MOST_SIDES]
+fn new_tops(
+    half: &Half,
+    to_j: &[i64; MOST_SIDES],
+    from_j: &[i64; MOST_SIDES],
+    to_i: &[i64; MOST_SIDES],
+    from_i: &[i64; MOST_SIDES],
+) -> [i64; MOST_SIDES]
     requires to_j { (k : ℕ) → IsMedium (at to_j.now k) }
     requires from_j { (k : ℕ) → IsSmall (at from_j.now k) }
     requires to_i { (k : ℕ) → IsMedium (at to_i.now k) }

@@ -1,16 +1,21 @@
 //! The half table: the bounds between the sides of some variables, one of each pair that says the same.
 
-ghost use Rattle.std.specs.Prelude.{◌≡◌, ◌≢◌, ◌↔◌, ℕ, ◌+◌, ◌*◌, ◌^◌, ◌<◌, ◌≤◌, ℤ, pos, ◌+ℤ◌, ◌≤ℤ◌, unsigned_abs, IsTrue};
+ghost use Rattle.std.specs.Prelude.{◌≡◌, ◌≢◌, ◌↔◌, ℕ, ◌+◌, ◌*◌, ◌^◌, ◌<◌, ◌≤◌, ℤ, pos, ◌+ℤ◌, ◌≤ℤ◌, unsigned_abs, IsTrue, IfOk, All, length};
 ghost use Rattle.std.specs.Bool.{MatchBool, OnTrue};
 ghost use Rattle.wm_octagon.specs.Layout.{opposite, row_len, entry, bound, table};
 ghost use Rattle.wm_octagon.specs.Closing.{half_of, top, list_with};
 ghost use Rattle.wm_octagon.specs.Points.{IsPoint, IsTight, LeastOctagon, WithBound};
 ghost use Rattle.wm_octagon.specs.HalfTable.{IsSmall};
 ghost use Rattle.wm_octagon.specs.Medium.{Filled};
+ghost use Rattle.wm_octagon.specs.Ranges.{IsNarrow, InRanges, range_top, box_table};
 
+use crate::changes::Boxing;
 use crate::closing::{Closing, plus};
-use crate::layout::{Change, MOST_SIDES, change_all, opposite, place};
+use crate::layout::{Change, MOST_SIDES, change_all, opposite, place, row_start};
+use std::alloc::Global;
 use std::marker::Model;
+use wm_interval::Interval;
+use wm_ops::NoMemory;
 
 /// The bounds between the sides of some variables. Side `2v` is the variable `v`, and side `2v + 1` is `-v`.
 /// For `j <= i`, and for `j = i + 1` with `i` even, the entry at row `i` and column `j` bounds the value of side `j` less
@@ -32,6 +37,32 @@ impl Model for Half {
 }
 
 impl Half {
+    /// Each variable has any number of its range. There are at most 32 ranges, whose ends have 32 bits. `NoMemory`: memory
+    /// ran out.
+    pub fn new(alloc: Global, ranges: &[Interval]) -> Result<Half, NoMemory>
+        requires few { length ranges.now ≤ 32 }
+        requires narrow { All IsNarrow ranges.now }
+        ensures list { IfOk result (λ h. h ≡ box_table ranges.now) }
+        ensures least { IfOk result (λ h. LeastOctagon h.variables (InRanges ranges.now) h.bounds) }
+        ensures tight { IfOk result (λ h. IsTight h.variables h.bounds) }
+    {
+        let change = Boxing {
+            tops: range_tops(ranges),
+        };
+        let mut half = Half::zero(alloc, ranges.len())?;
+        half.change(&change);
+        Ok(half)
+    }
+
+    // each entry is 0
+    fn zero(alloc: Global, variables: usize) -> Result<Half, NoMemory>
+        requires { variables ≤ 32 }
+        ensures { IfOk result (λ h. h.variables ≡ variables) }
+    {
+        let bounds = vec![in alloc; 0; row_start(2 * variables)]?;
+        Ok(Half { variables, bounds })
+    }
+
     /// The entry at row `i` and column `j`, which exists.
     pub fn entry(&self, i: usize, j: usize) -> i64
         requires row { i < 2 * self.now.variables }
@@ -127,6 +158,20 @@ impl Half {
         }
         true
     }
+}
+
+/// The greatest value of each side, where each variable has any number of its range.
+fn range_tops(ranges: &[Interval]) -> [i64; MOST_SIDES]
+    requires few { length ranges.now ≤ 32 }
+    requires narrow { All IsNarrow ranges.now }
+    ensures value { Filled IsSmall (range_top ranges.now) (2 * length ranges.now) result }
+{
+    let mut tops = [0; MOST_SIDES];
+    for (v, r) in ranges.iter().enumerate() {
+        tops[2 * v] = r.high;
+        tops[2 * v + 1] = -r.low;
+    }
+    tops
 }
 
 /// Half of `z`, rounded down.

@@ -2,8 +2,11 @@
 //! so tight that an integer point attains each.
 #![tactic(auto)]
 
+mod changes;
 mod closing;
 mod half;
 mod layout;
+#[cfg(test)]
+mod tests;
 
 pub use half::Half;

@@ -1,14 +1,8 @@
-use Rattle.std.proofs.Common.{◌≡◌, ◌∙◌, ℕ, ℤ, pos, ◌+ℤ◌, arith, subst, sym, ap, refl, to_z, of_z, w64}
+use Rattle.std.proofs.Common.{◌∙◌, ◌+ℤ◌, subst, sym, ap, w64}
 use Rattle.std.proofs.lemmas.Int.{to_z-of_z}
-use Rattle.std.proofs.lemmas.List.{length-set}
-use Rattle.std.specs.Int.{int_min}
-use Rattle.wm_octagon.specs.HalfTable.{IsSmall}
 use Rattle.wm_octagon.specs.Medium.{IsMedium}
-use Rattle.wm_octagon.specs.Layout.{opposite, bound}
-use Rattle.wm_octagon.specs.Closing.{half_of, top, through, with_bound}
-use Rattle.wm_octagon.specs.Ways.{at, least_way}
-use Rattle.wm_octagon.proofs.Small.{small_read, medium-zero, medium_read, medium_small, medium_round, fits_small, fits_medium, fits_sum, way_sized, half_least_sized, sum_sized}
-use Rattle.wm_octagon.proofs.Filled.{filled-none, filled-more}
+use Rattle.wm_octagon.specs.Closing.{half_of}
+use Rattle.wm_octagon.proofs.Small.{medium_small, fits_sum, half_least_sized, sum_sized}
 use mir.Val.{SFits}
 use Rattle.wm_octagon.proofs.closing.half_least.Goals as goal
 
@@ -38,4 +32,4 @@ returns-clause-sized c =
     let fh : SFits w64 c.halved.result = record { sfits = c.halved.type_inv } in
     let e = to_z-of_z w64 c.halved.result fh ∙ c.halved.ensures.value ∙ ap half_of (to_z-of_z w64 c.least.result fl ∙ (simp to_z-of_z at c.least.ensures)) in
     subst IsMedium (sym e) (half_least_sized c.args.bound (c.args.to_j +ℤ c.args.from_j) (c.args.to_i +ℤ c.args.from_i) c.requires.bound
-        (sum_sized _ _ c.requires.to_j (medium_small _ c.requires.from_j)) (sum_sized _ _ c.requires.to_i (medium_small _ c.requires.from_i)))
+    (sum_sized _ _ c.requires.to_j (medium_small _ c.requires.from_j)) (sum_sized _ _ c.requires.to_i (medium_small _ c.requires.from_i)))

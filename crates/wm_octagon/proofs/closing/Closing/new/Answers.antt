@@ -1,11 +1,10 @@
-use Rattle.std.proofs.Common.{◌≡◌, ◌∙◌, ℕ, ◌*◌, ◌<◌, ℤ, pos, ◌+ℤ◌, subst, sym, ap, refl, to_z, of_z, w64}
+use Rattle.std.proofs.Common.{◌≡◌, ◌∙◌, ◌*◌, ◌+ℤ◌, subst, ap, to_z, of_z, w64}
 use Rattle.std.proofs.lemmas.Int.{to_z-of_z}
 use Rattle.wm_octagon.specs.Layout.{opposite, bound}
 use Rattle.wm_octagon.specs.HalfTable.{IsSmall}
-use Rattle.wm_octagon.specs.Medium.{IsMedium, Filled}
-use Rattle.wm_octagon.specs.Closing.{through}
-use Rattle.wm_octagon.specs.Ways.{at, AreRows, AreWays}
-use Rattle.wm_octagon.proofs.Small.{small_read, fits_small}
+use Rattle.wm_octagon.specs.Medium.{Filled}
+use Rattle.wm_octagon.specs.Ways.{AreRows, AreWays}
+use Rattle.wm_octagon.proofs.Small.{fits_small}
 use Rattle.wm_octagon.proofs.Closings.{ways-given, tops-are}
 use Rattle.wm_octagon.proofs.closing.Closing.new.Goals as goal
 use mir.Val.{SFits}
@@ -14,7 +13,7 @@ use mir.Val.{SFits}
 rows : (c : goal.After-result-1) → AreRows c.args.half.now.variables c.args.half.now.bounds c.args.i c.args.j c.row-from_j.result c.row-from_i.result
 rows c = record {
   j_row = c.row-from_j.ensures.value;
-  i_row = subst (λ o. Filled IsSmall (bound c.args.half.now.bounds o) (2 * c.args.half.now.variables) c.row-from_i.result) c.opposite.ensures c.row-from_i.ensures.value
+  i_row = subst (λ o. Filled IsSmall (bound c.args.half.now.bounds o) (2 * c.args.half.now.variables) c.row-from_i.result) c.opposite.ensures c.row-from_i.ensures.value;
 }
 
 round : (c : goal.After-result-1) → to_z w64 (of_z w64 c.round_trip.result) ≡ c.args.c +ℤ c.args.c +ℤ bound c.args.half.now.bounds (opposite c.args.i) c.args.i
@@ -39,7 +38,7 @@ are_ways c =
     let here = to_z-of_z w64 c.args.c c.ranges.c in
     record {
       j_ways = ways-given c.args.half.now.variables c.row-from_i.result c.row-from_j.result (bound c.args.half.now.bounds (opposite c.args.i)) (bound c.args.half.now.bounds c.args.j) _ _ _ _ _ c.ways-to_j.result r.i_row.done r.j_row.done (round c) here c.sides-sides.ensures.value c.ways-to_j.ensures.value;
-      i_ways = ways-given c.args.half.now.variables c.row-from_j.result c.row-from_i.result (bound c.args.half.now.bounds c.args.j) (bound c.args.half.now.bounds (opposite c.args.i)) _ _ _ _ _ c.ways-to_i.result r.j_row.done r.i_row.done (round_back c) here c.sides-sides.ensures.value c.ways-to_i.ensures.value
+      i_ways = ways-given c.args.half.now.variables c.row-from_j.result c.row-from_i.result (bound c.args.half.now.bounds c.args.j) (bound c.args.half.now.bounds (opposite c.args.i)) _ _ _ _ _ c.ways-to_i.result r.j_row.done r.i_row.done (round_back c) here c.sides-sides.ensures.value c.ways-to_i.ensures.value;
     }
 
 pub returns-clause-rows : goal.returns-clause-rows

@@ -1,14 +1,8 @@
-use Rattle.std.proofs.Common.{◌≡◌, ◌∙◌, ℕ, ℤ, pos, ◌+ℤ◌, arith, subst, sym, ap, refl, to_z, of_z, w64}
+use Rattle.std.proofs.Common.{◌≡◌, ◌∙◌, ◌+ℤ◌, ap, w64}
 use Rattle.std.proofs.lemmas.Int.{to_z-of_z}
-use Rattle.std.proofs.lemmas.List.{length-set}
 use Rattle.std.specs.Int.{int_min}
-use Rattle.wm_octagon.specs.HalfTable.{IsSmall}
-use Rattle.wm_octagon.specs.Medium.{IsMedium}
-use Rattle.wm_octagon.specs.Layout.{opposite, bound}
-use Rattle.wm_octagon.specs.Closing.{half_of, top, through, with_bound}
 use Rattle.wm_octagon.specs.Ways.{at, least_way}
-use Rattle.wm_octagon.proofs.Small.{small_read, medium-zero, medium_read, medium_small, medium_round, fits_small, fits_medium, fits_sum, way_sized, half_least_sized, sum_sized}
-use Rattle.wm_octagon.proofs.Filled.{filled-none, filled-more}
+use Rattle.wm_octagon.proofs.Small.{fits_small, fits_medium}
 use mir.Val.{SFits}
 use Rattle.wm_octagon.proofs.closing.ClosingChange.changed.Goals as goal
 

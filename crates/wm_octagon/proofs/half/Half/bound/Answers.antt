@@ -1,4 +1,4 @@
-use Rattle.std.proofs.Common.{◌≡◌, ℕ, ◌+◌, ◌*◌, ◌<◌, ◌≤◌, ℤ, pos, get_or, length, arith, ap, sym, ◌∙◌, subst}
+use Rattle.std.proofs.Common.{◌≡◌, ◌*◌, pos, get_or, length, arith, ap, sym, ◌∙◌, subst}
 use Rattle.wm_octagon.specs.Layout.{row_start, place, bound}
 use Rattle.wm_octagon.specs.HalfTable.{HalfTable, IsSmall}
 use Rattle.wm_octagon.proofs.Rows.{place_in}
@@ -17,8 +17,8 @@ unfolding bound
 returns-clause-value c =
     let items = c.as_slice-bounds.ensures.value in
     let here : get_or c.as_slice-bounds.result.now c.place.result (pos 0) ≡ bound c.args.self.now.bounds c.args.k c.args.l =
-        ap (λ i. get_or c.as_slice-bounds.result.now i (pos 0)) c.place.ensures.at
-        ∙ ap (λ xs. get_or xs (place c.args.k c.args.l) (pos 0)) (items ∙ ap (λ (h : HalfTable). h.bounds) c.self.view_is) in
+    ap (λ i. get_or c.as_slice-bounds.result.now i (pos 0)) c.place.ensures.at
+    ∙ ap (λ xs. get_or xs (place c.args.k c.args.l) (pos 0)) (items ∙ ap (λ (h : HalfTable). h.bounds) c.self.view_is) in
     small_read _ (subst (λ xs. IsSmall (get_or xs c.place.result (pos 0))) (sym items) (c.self.invariant.small c.place.result)) ∙ here
 
 pub returns-clause-small : goal.returns-clause-small

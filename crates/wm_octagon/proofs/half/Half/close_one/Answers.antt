@@ -1,10 +1,10 @@
-use Rattle.std.proofs.Common.{◌≡◌, ◌∙◌, ℕ, ◌*◌, ◌<◌, ℤ, pos, ◌+ℤ◌, ◌<ℤ◌, ◌≤ℤ◌, arith, subst, sym, ap, List, refl, to_z, of_z, w64, true, false}
+use Rattle.std.proofs.Common.{◌≡◌, ◌∙◌, ℕ, ◌*◌, ◌<◌, ℤ, pos, ◌+ℤ◌, ◌<ℤ◌, ◌≤ℤ◌, arith, subst, sym, ap, List, w64, true, false}
 use Rattle.std.proofs.lemmas.Int.{to_z-of_z}
-use Rattle.wm_octagon.specs.Layout.{opposite, bound, table, row_len, entry}
+use Rattle.wm_octagon.specs.Layout.{bound, table}
 use Rattle.wm_octagon.specs.HalfTable.{HalfTable, IsSmall, IsWhole}
-use Rattle.wm_octagon.specs.Closing.{closed, list_with}
+use Rattle.wm_octagon.specs.Closing.{closed}
 use Rattle.wm_octagon.specs.Points.{IsPoint, IsTight, LeastOctagon, WithBound}
-use Rattle.wm_octagon.proofs.Small.{small_read, fits_small, lt_of, le_of, not_le, does_le}
+use Rattle.wm_octagon.proofs.Small.{fits_small, lt_of, le_of, not_le}
 use Rattle.wm_octagon.proofs.Tight.{column-lt}
 use Rattle.wm_octagon.proofs.Closings.{table-ext, closing-value, closed_small}
 use Rattle.wm_octagon.proofs.Least.{tight_of_least, closed-least, closed-points, known-least, known-points, contradicts}
@@ -47,7 +47,7 @@ known c =
     record {
       room = subst (λ z. pos 0 ≤ℤ z) sum (le_of _ _ test);
       fresh = subst (λ z. c.args.c <ℤ z) c.bound-2.ensures.value (lt_of _ _ test2);
-      j_in = column-lt c.args.self.now.variables c.args.i c.args.j c.requires.row c.requires.column
+      j_in = column-lt c.args.self.now.variables c.args.i c.args.j c.requires.row c.requires.column;
     }
 
 pub change-requires-clause-sized : goal.change-requires-clause-sized
@@ -56,15 +56,15 @@ change-requires-clause-sized c = λ k l hk hl.
     let whole : IsWhole c.args.self.now.variables c.args.self.now.bounds = subst (λ (h : HalfTable). IsWhole h.variables h.bounds) c.self.view_is c.self.invariant in
     let e = closing-value c.args.self.now.variables c.args.self.now.bounds c.args.i c.args.j _ _ _ _ _ _ c.new-closing.ensures.rows c.new-closing.ensures.ways c.new-closing.ensures.tops k l hk hl in
     subst IsSmall (sym e)
-      (closed_small c.args.self.now.variables c.args.self.now.bounds c.args.i c.args.j _ whole c.requires.tight c.requires.row f.j_in (subst (λ z. pos 0 ≤ℤ (z +ℤ bound c.args.self.now.bounds c.args.j c.args.i)) (sym (to_z-of_z w64 c.args.c c.ranges.c)) f.room) k l hk (column-lt c.args.self.now.variables k l hk hl))
+    (closed_small c.args.self.now.variables c.args.self.now.bounds c.args.i c.args.j _ whole c.requires.tight c.requires.row f.j_in (subst (λ z. pos 0 ≤ℤ (z +ℤ bound c.args.self.now.bounds c.args.j c.args.i)) (sym (to_z-of_z w64 c.args.c c.ranges.c)) f.room) k l hk (column-lt c.args.self.now.variables k l hk hl))
 
 -- the list after the change
 changed : (c : goal.After-change) → c.change.new.self ≡ record { variables = c.args.self.now.variables; bounds = table (2 * c.args.self.now.variables) (closed (bound c.args.self.now.bounds) c.args.i c.args.j c.args.c) }
 changed c =
     c.change.ensures
     ∙ ap (λ ys. let h : HalfTable = record { variables = c.args.self.now.variables; bounds = ys } in h)
-        (table-ext _ _ _ (λ k l hk hl. closing-value c.args.self.now.variables c.args.self.now.bounds c.args.i c.args.j _ _ _ _ _ _ c.new-closing.ensures.rows c.new-closing.ensures.ways c.new-closing.ensures.tops k l hk hl)
-          ∙ ap (λ z. table (2 * c.args.self.now.variables) (closed (bound c.args.self.now.bounds) c.args.i c.args.j z)) (to_z-of_z w64 c.args.c c.ranges.c))
+    (table-ext _ _ _ (λ k l hk hl. closing-value c.args.self.now.variables c.args.self.now.bounds c.args.i c.args.j _ _ _ _ _ _ c.new-closing.ensures.rows c.new-closing.ensures.ways c.new-closing.ensures.tops k l hk hl)
+    ∙ ap (λ z. table (2 * c.args.self.now.variables) (closed (bound c.args.self.now.bounds) c.args.i c.args.j z)) (to_z-of_z w64 c.args.c c.ranges.c))
 
 -- what of After-closing-1 is known there too
 known_after : (c : goal.After-change) → Known c.args.self.now.variables c.args.self.now.bounds c.args.i c.args.j c.args.c
@@ -79,7 +79,7 @@ known_after c =
     record {
       room = subst (λ z. pos 0 ≤ℤ z) sum (le_of _ _ test);
       fresh = subst (λ z. c.args.c <ℤ z) c.bound-2.ensures.value (lt_of _ _ test2);
-      j_in = column-lt c.args.self.now.variables c.args.i c.args.j c.requires.row c.requires.column
+      j_in = column-lt c.args.self.now.variables c.args.i c.args.j c.requires.row c.requires.column;
     }
 
 pub returns-then-c-bound-clause-list : goal.returns-then-c-bound-clause-list
@@ -92,20 +92,20 @@ pub returns-then-c-bound-clause-least : goal.returns-then-c-bound-clause-least
 returns-then-c-bound-clause-least c =
     let f = known_after c in
     subst (λ (h : HalfTable). LeastOctagon c.args.self.now.variables (WithBound c.args.self.now.variables c.args.self.now.bounds c.args.i c.args.j c.args.c) h.bounds) (sym (changed c))
-      (closed-least c.args.self.now.variables c.args.self.now.bounds c.args.i c.args.j c.args.c c.requires.tight c.requires.row f.j_in f.room)
+    (closed-least c.args.self.now.variables c.args.self.now.bounds c.args.i c.args.j c.args.c c.requires.tight c.requires.row f.j_in f.room)
 
 pub returns-then-c-bound-clause-points : goal.returns-then-c-bound-clause-points
 returns-then-c-bound-clause-points c = λ x.
     let f = known_after c in
     let least = closed-least c.args.self.now.variables c.args.self.now.bounds c.args.i c.args.j c.args.c c.requires.tight c.requires.row f.j_in f.room in
     subst (λ (h : HalfTable). (IsPoint h.variables h.bounds x → WithBound c.args.self.now.variables c.args.self.now.bounds c.args.i c.args.j c.args.c x) × (WithBound c.args.self.now.variables c.args.self.now.bounds c.args.i c.args.j c.args.c x → IsPoint h.variables h.bounds x)) (sym (changed c))
-      (closed-points c.args.self.now.variables c.args.self.now.bounds c.args.i c.args.j c.args.c c.requires.tight c.requires.row f.j_in f.room x, least.holds x)
+    (closed-points c.args.self.now.variables c.args.self.now.bounds c.args.i c.args.j c.args.c c.requires.tight c.requires.row f.j_in f.room x, least.holds x)
 
 pub returns-then-c-bound-clause-tight : goal.returns-then-c-bound-clause-tight
 returns-then-c-bound-clause-tight c =
     let f = known_after c in
     subst (λ (h : HalfTable). IsTight h.variables h.bounds) (sym (changed c))
-      (tight_of_least _ _ _ (closed-least c.args.self.now.variables c.args.self.now.bounds c.args.i c.args.j c.args.c c.requires.tight c.requires.row f.j_in f.room))
+    (tight_of_least _ _ _ (closed-least c.args.self.now.variables c.args.self.now.bounds c.args.i c.args.j c.args.c c.requires.tight c.requires.row f.j_in f.room))
 
 pub returns-else-c-bound-clause-least : goal.returns-else-c-bound-clause-least
 returns-else-c-bound-clause-least c =

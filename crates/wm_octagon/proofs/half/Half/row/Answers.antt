@@ -1,5 +1,5 @@
-use Rattle.std.proofs.Common.{◌∙◌, arith, subst, sym, pos, ap, refl}
-use Rattle.std.proofs.lemmas.List.{length-set, length-replicate}
+use Rattle.std.proofs.Common.{◌∙◌, arith, subst, refl}
+use Rattle.std.proofs.lemmas.List.{length-set}
 use Rattle.wm_octagon.specs.HalfTable.{IsSmall}
 use Rattle.wm_octagon.specs.Layout.{bound}
 use Rattle.wm_octagon.proofs.Small.{small_read, small-zero}
@@ -13,5 +13,5 @@ pub loop-l-preserved : goal.loop-l-preserved
 loop-l-preserved c = record {
   long = length-set _ _ _ ∙ c.loop-l.invariant.long;
   filled = filled-more IsSmall (bound c.args.self.now.bounds c.args.k) c.loop-l.l c.loop-l.row _ c.loop-l.invariant.filled (omega arith)
-      (small_read c.bound.result c.bound.ensures.small ∙ c.bound.ensures.value) (subst IsSmall c.bound.ensures.value c.bound.ensures.small)
+      (small_read c.bound.result c.bound.ensures.small ∙ c.bound.ensures.value) (subst IsSmall c.bound.ensures.value c.bound.ensures.small);
 }

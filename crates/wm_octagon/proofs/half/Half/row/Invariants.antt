@@ -1,4 +1,4 @@
-use Rattle.std.proofs.Common.{◌≡◌, ℕ, ◌*◌, ◌≤◌, length}
+use Rattle.std.proofs.Common.{◌≡◌, length}
 use Rattle.wm_octagon.specs.Layout.{bound}
 use Rattle.wm_octagon.specs.HalfTable.{IsSmall}
 use Rattle.wm_octagon.specs.Medium.{Filled}
@@ -7,5 +7,5 @@ use Rattle.wm_octagon.proofs.half.Half.row.Given as goal
 abbrev pub invariant-loop-l : goal.invariant-loop-l
 invariant-loop-l l = record {
   long : length l.row ≡ 64;
-  filled : Filled IsSmall (bound l.self.bounds l.k) l.l l.row
+  filled : Filled IsSmall (bound l.self.bounds l.k) l.l l.row;
 }

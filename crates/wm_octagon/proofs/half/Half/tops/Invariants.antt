@@ -1,4 +1,4 @@
-use Rattle.std.proofs.Common.{◌≡◌, ℕ, ◌*◌, ◌≤◌, length}
+use Rattle.std.proofs.Common.{◌≡◌, length}
 use Rattle.wm_octagon.specs.Layout.{bound}
 use Rattle.wm_octagon.specs.Closing.{top}
 use Rattle.wm_octagon.specs.HalfTable.{IsSmall}
@@ -8,5 +8,5 @@ use Rattle.wm_octagon.proofs.half.Half.tops.Given as goal
 abbrev pub invariant-loop-k : goal.invariant-loop-k
 invariant-loop-k l = record {
   long : length l.tops ≡ 64;
-  filled : Filled IsSmall (top (bound l.self.bounds)) l.k l.tops
+  filled : Filled IsSmall (top (bound l.self.bounds)) l.k l.tops;
 }
