@@ -1,0 +1,16 @@
+pub mod Dividing
+pub mod Failing
+pub mod Halving
+pub mod HullOps
+pub mod Narrowing
+pub mod NormRanges
+pub mod Norming
+pub mod ProductBounds
+pub mod QuotientRanges
+pub mod Rising
+pub mod ShiftOps
+pub mod ShiftRanges
+pub mod Spans
+pub mod Telling
+pub mod Turning
+pub mod UsedBoxes

@@ -1,0 +1,7 @@
+use Rattle.std.proofs.Common.{◌+ℤ◌}
+use Rattle.wm_hull.proofs.Spans.{range_two}
+use Rattle.wm_hull.proofs.Telling.{tells16}
+use Rattle.wm_hull.proofs.failures.sums_leave16.Goals as goal
+
+pub returns : goal.returns
+returns c = λ z. tells16 _ c.args.x c.args.y z c.add.result (range_two ◌+ℤ◌ c.args.x c.args.y z c.add.result c.add.ensures.least) c.leaves16.result c.leaves16.ensures

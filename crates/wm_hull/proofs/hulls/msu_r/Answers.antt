@@ -1,0 +1,5 @@
+use Rattle.wm_hull.proofs.HullOps.{msu_r_hull}
+use Rattle.wm_hull.proofs.hulls.msu_r.Goals as goal
+
+pub returns : goal.returns
+returns c = msu_r_hull c.args.x c.args.y c.args.z c.multiplied_from.result c.clamped32.result c.rounded.result c.multiplied_from.ensures c.clamped32.ensures.low c.clamped32.ensures.high c.rounded.ensures.low c.rounded.ensures.high

@@ -1,0 +1,4 @@
+pub mod Boxes
+pub mod Failures
+pub mod Ranges
+pub mod Searches
