@@ -19,6 +19,8 @@ mod ranges;
 mod shifts;
 mod sums;
 mod table;
+#[cfg(test)]
+mod tests;
 
 use wm_interval::Interval;
 use wm_ops::{Op, arity};
