@@ -1,8 +1,10 @@
 pub mod Attained
 pub mod Filled
+pub mod Boxed
 pub mod Closings
 pub mod Least
 pub mod Moves
+pub mod Octagons
 pub mod Ranges
 pub mod Rows
 pub mod Small

@@ -14,12 +14,12 @@ use Rattle.wm_octagon.proofs.Tight.{table_of, meets_of, column-lt, attains_bound
 use Rattle.wm_octagon.proofs.Least.{value_le_top}
 
 -- a side's greatest value is that of a point
-record Peak (n : ℕ) (xs : List ℤ) (k : ℕ) : Type 0 where
-  x : ℕ → ℤ
-  point : IsPoint n xs x
-  gives : side_value x k ≡ top (bound xs) k
+pub record Peak (n : ℕ) (xs : List ℤ) (k : ℕ) : Type 0 where
+  pub x : ℕ → ℤ
+  pub point : IsPoint n xs x
+  pub gives : side_value x k ≡ top (bound xs) k
 
-peak : (n : ℕ) (xs : List ℤ) (k : ℕ) → IsTight n xs → k < 2 * n → Peak n xs k
+pub peak : (n : ℕ) (xs : List ℤ) (k : ℕ) → IsTight n xs → k < 2 * n → Peak n xs k
 unfolding top
 peak n xs k t hk =
     let a = attains_bound n (IsPoint n xs) xs t.attained (opposite k) k (opposite-lt n k hk) hk in

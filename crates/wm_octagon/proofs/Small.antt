@@ -95,3 +95,9 @@ small_neg z s = let a = s.above in let b = s.below in record { above = omega (ar
 
 pub neg-sub : (z : ℤ) → pos 0 -ℤ z ≡ neg_ℤ z
 neg-sub z = omega (arith, ints)
+
+pub small_negated : (z : ℤ) → IsSmall z → IsSmall (neg_ℤ z)
+small_negated z s = let a = s.above in let b = s.below in record { above = omega (arith, ints); below = omega (arith, ints) }
+
+pub fits_negated : (z : ℤ) → IsSmall z → SFits w64 (pos 0 -ℤ z)
+fits_negated z s = fits_small _ (subst IsSmall (sym (neg-sub z)) (small_negated z s))

@@ -5,4 +5,6 @@ pub mod Layout
 pub mod Medium
 pub mod Points
 pub mod Ranges
+pub mod Sides
+pub mod View
 pub mod Ways

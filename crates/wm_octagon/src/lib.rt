@@ -6,7 +6,9 @@ mod changes;
 mod closing;
 mod half;
 mod layout;
+mod octagon;
 #[cfg(test)]
 mod tests;
 
 pub use half::Half;
+pub use octagon::{Octagon, Side};

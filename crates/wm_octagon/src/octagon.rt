@@ -1,0 +1,157 @@
+//! The octagon: integer bounds on variables, their sums and their differences, each attained while there is a point.
+
+ghost use Rattle.std.specs.Prelude.{◌≡◌, ◌≢◌, ◌↔◌, ℕ, ◌+◌, ◌*◌, ◌^◌, ◌<◌, ◌≤◌, ℤ, pos, neg_ℤ, ◌+ℤ◌, ◌-ℤ◌, ◌≤ℤ◌, unsigned_abs, IsTrue, IfOk, All, length, MatchOption, IfSome, IsSome, Option, Some, None};
+ghost use Rattle.std.specs.Bool.{MatchBool};
+ghost use Rattle.wm_octagon.specs.Ranges.{IsNarrow, InRanges};
+ghost use Rattle.wm_octagon.specs.Points.{side_value};
+ghost use Rattle.wm_octagon.specs.Layout.{opposite};
+
+use crate::half::{Half, halved};
+use crate::layout::{opposite, row_len};
+use std::alloc::Global;
+use std::marker::Model;
+use wm_interval::Interval;
+use wm_ops::NoMemory;
+
+/// A variable, or its negative.
+#[derive(Clone, Copy, Debug, PartialEq, Eq)]
+pub struct Side {
+    /// The number of the variable.
+    pub variable: usize,
+    /// Whether the variable's negative is meant.
+    pub negative: bool,
+}
+
+impl Side {
+    ghost use Rattle.wm_octagon.specs.Sides.{number_of};
+
+    // the number of the side in a half table
+    #[inline(always)]
+    fn number(self) -> usize
+        requires { self.variable < 32 }
+        ensures value { result ≡ number_of self }
+    {
+        if self.negative {
+            return 2 * self.variable + 1;
+        }
+        2 * self.variable
+    }
+}
+
+/// The least and greatest values of some variables, and of the sums and differences of any two of them. Its points are the
+/// integer points that meet all these bounds; while it has a point, one attains each bound.
+#[derive(Drop)]
+pub struct Octagon {
+    half: Half,
+    empty: bool,
+}
+
+impl Model for Octagon {
+    ghost use Rattle.std.specs.Prelude.{if◌then◌else◌, Some, None};
+    ghost use Rattle.wm_octagon.specs.View.{OctagonView, IsKept};
+
+    ghost Value = { OctagonView };
+
+    ghost view = { λ o. record { variables = o.half.variables; bounds = if o.empty then None else Some o.half.bounds } };
+
+    ghost invariant = { λ o. IsKept o.half.variables o.half.bounds o.empty };
+}
+
+impl Octagon {
+    ghost use Rattle.wm_octagon.specs.View.{IsLeast, WithDifference};
+    ghost use Rattle.wm_octagon.specs.Sides.{number_of, IsRangeOf, IsGreatestSum, WithSum};
+
+    /// Each variable has any number of its range. There are at most 32 ranges, whose ends have 32 bits. `NoMemory`: memory
+    /// ran out.
+    pub fn new(alloc: Global, ranges: &[Interval]) -> Result<Octagon, NoMemory>
+        requires few { length ranges.now ≤ 32 }
+        requires narrow { All IsNarrow ranges.now }
+        ensures variables { IfOk result (λ o. o.variables ≡ length ranges.now) }
+        ensures least { IfOk result (λ o. IsLeast o (InRanges ranges.now)) }
+    {
+        let half = Half::new(alloc, ranges)?;
+        Ok(Octagon { half, empty: false })
+    }
+
+    /// Whether it has no point.
+    pub fn is_empty(&self) -> bool
+        ensures value { IsTrue result ↔ (self.now.bounds ≡ None) }
+    {
+        self.empty
+    }
+
+    /// The least and the greatest value of variable `v`, or None exactly where there is no point.
+    pub fn range(&self, v: usize) -> Option<Interval>
+        requires { v < self.now.variables }
+        ensures none { MatchOption result (self.now.bounds ≡ None) (λ r. IsSome self.now.bounds) }
+        ensures ends { IfSome result (λ r. IsRangeOf self.now v r.low r.high) }
+    {
+        if self.empty {
+            return None;
+        }
+        let high = halved(self.half.bound(2 * v + 1, 2 * v));
+        let low = halved(self.half.bound(2 * v, 2 * v + 1));
+        Some(Interval::new(-low, high))
+    }
+
+    /// The greatest value of the sum of two sides of different variables, or None exactly where there is no point.
+    pub fn bound(&self, a: Side, b: Side) -> Option<i64>
+        requires first { a.variable < self.now.variables }
+        requires second { b.variable < self.now.variables }
+        requires apart { a.variable ≢ b.variable }
+        ensures none { MatchOption result (self.now.bounds ≡ None) (λ z. IsSome self.now.bounds) }
+        ensures greatest { IfSome result (λ z. IsGreatestSum self.now a b z) }
+    {
+        if self.empty {
+            return None;
+        }
+        Some(self.half.bound(opposite(a.number()), b.number()))
+    }
+
+    /// Keeps the points at which the sum of the sides `a` and `b` is at most `c`, a number below 2^40 in size.
+    pub fn add_bound(&mut self, a: Side, b: Side, c: i64)
+        requires first { a.variable < self.old.variables }
+        requires second { b.variable < self.old.variables }
+        requires size { unsigned_abs c < 2 ^ 40 }
+        ensures variables { self.new.variables ≡ self.old.variables }
+        ensures least { IsLeast self.new (WithSum self.old a b c) }
+    {
+        let k = opposite(self.place_of(a));
+        let l = self.place_of(b);
+        self.keep(k, l, c);
+    }
+
+    // the number of a side in the half table
+    fn place_of(&self, side: Side) -> usize
+        requires { side.variable < self.now.variables }
+        ensures value { result ≡ number_of side }
+        ensures inside { result < 2 * self.now.variables }
+        ensures low { result < 64 }
+    {
+        let _ = &self.half;
+        side.number()
+    }
+
+    // keeps the points at which side `l` less side `k` is at most `c`
+    fn keep(&mut self, k: usize, l: usize, c: i64)
+        requires first { k < 2 * self.old.variables }
+        requires second { l < 2 * self.old.variables }
+        requires size { unsigned_abs c < 2 ^ 42 }
+        ensures variables { self.new.variables ≡ self.old.variables }
+        ensures least { IsLeast self.new (WithDifference self.old k l c) }
+    {
+        if self.empty {
+            return;
+        }
+        if k == l {
+            self.empty = c < 0;
+            return;
+        }
+        let open = if l < row_len(k) {
+            self.half.close_one(k, l, c)
+        } else {
+            self.half.close_one(opposite(l), opposite(k), c)
+        };
+        self.empty = !open;
+    }
+}
