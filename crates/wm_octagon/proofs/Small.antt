@@ -1,5 +1,5 @@
 -- Numbers of at most 2^42 in size are read back as they are, and their sums fit.
-use Rattle.std.proofs.Common.{◌≡◌, ℕ, ℤ, pos, negsuc, ◌+ℤ◌, ◌-ℤ◌, neg_ℤ, arith, rules, to_z, of_z, w64, ◌<◌, zero, suc, refl, get_or, length, map, sym, subst, inl, inr}
+use Rattle.std.proofs.Common.{◌≡◌, ℕ, ℤ, pos, negsuc, ◌+ℤ◌, ◌-ℤ◌, neg_ℤ, ◌*ℤ◌, ◌^◌, unsigned_abs, arith, rules, to_z, of_z, w64, ◌<◌, zero, suc, refl, get_or, length, map, sym, subst, inl, inr}
 use Rattle.std.specs.List.{range_with_len}
 use Rattle.std.proofs.lemmas.Bool.{cases_lt}
 use Rattle.std.proofs.lemmas.List.{get_or_append_left, get_or-append_right, get_or_past}
@@ -101,3 +101,14 @@ small_negated z s = let a = s.above in let b = s.below in record { above = omega
 
 pub fits_negated : (z : ℤ) → IsSmall z → SFits w64 (pos 0 -ℤ z)
 fits_negated z s = fits_small _ (subst IsSmall (sym (neg-sub z)) (small_negated z s))
+
+-- a number below 2^40 in size
+pub abs_within : (z : ℤ) → unsigned_abs z < 2 ^ 40 → Within (negsuc 1099511627774) (pos 1099511627775) z
+abs_within (pos n) h = record { above = omega (arith, ints); below = omega (arith, ints) }
+abs_within (negsuc n) h = record { above = omega (arith, ints); below = omega (arith, ints) }
+
+pub doubled : (z : ℤ) → unsigned_abs z < 2 ^ 40 → to_z w64 (of_z w64 (pos 2 *ℤ to_z w64 (of_z w64 z))) ≡ z +ℤ z
+doubled z h = let w = abs_within z h in let a = w.above in let b = w.below in omega (arith, ints)
+
+pub doubled-minus : (z : ℤ) → unsigned_abs z < 2 ^ 40 → to_z w64 (of_z w64 (negsuc 1 *ℤ to_z w64 (of_z w64 z))) ≡ neg_ℤ (z +ℤ z)
+doubled-minus z h = let w = abs_within z h in let a = w.above in let b = w.below in omega (arith, ints)

@@ -1,6 +1,7 @@
 -- Signed variables, and what an octagon tells of them.
-use Rattle.std.specs.Prelude.{ℕ, ◌≡◌, ◌+◌, ◌*◌, ℤ, ◌+ℤ◌, ◌≤ℤ◌, neg_ℤ, Bool, if◌then◌else◌}
+use Rattle.std.specs.Prelude.{ℕ, ◌≡◌, ◌+◌, ◌*◌, ℤ, ◌+ℤ◌, ◌≤ℤ◌, neg_ℤ, if◌then◌else◌}
 use Rattle.wm_numbers.specs.Extremes.{LeastOf, GreatestOf}
+use Rattle.wm_numbers.specs.Within.{Within}
 use Rattle.wm_octagon.specs.declared.octagon.Side.{Side}
 use Rattle.wm_octagon.specs.View.{OctagonView, Holds}
 
@@ -37,3 +38,8 @@ IsGreatestSum o a b z = GreatestOf (IsSumOf o a b) z
 pub record WithSum (o : OctagonView) (a b : Side) (c : ℤ) (x : ℕ → ℤ) : Type 0 where
   pub point : Holds o x
   pub bounded : (signed x a +ℤ signed x b) ≤ℤ c
+
+-- a point of the octagon at which variable v lies between two ends
+pub record WithRange (o : OctagonView) (v : ℕ) (low high : ℤ) (x : ℕ → ℤ) : Type 0 where
+  pub point : Holds o x
+  pub inside : Within low high (x v)

@@ -1,5 +1,5 @@
 -- What an octagon is seen as, and its points.
-use Rattle.std.specs.Prelude.{ℕ, ◌≡◌, ◌*◌, ◌+◌, ◌<◌, ◌≤◌, ℤ, pos, negsuc, ◌-ℤ◌, ◌+ℤ◌, ◌≤ℤ◌, neg_ℤ, List, Option, Some, None, Bool, true, false}
+use Rattle.std.specs.Prelude.{ℕ, ◌≡◌, ◌<◌, ◌≤◌, ℤ, pos, negsuc, ◌-ℤ◌, ◌≤ℤ◌, List, Option, Some, None, Bool, false}
 use Rattle.wm_numbers.specs.Within.{Within}
 use Rattle.wm_octagon.specs.Points.{side_value, IsPoint, IsTight, LeastOctagon}
 

@@ -54,6 +54,17 @@ impl Half {
         Ok(half)
     }
 
+    /// The same half table once more.
+    pub(crate) fn copy(&self, alloc: Global) -> Result<Half, NoMemory>
+        ensures { IfOk result (λ h. h ≡ self.now) }
+    {
+        let bounds = Vec::from_slice(alloc, self.bounds.as_slice())?;
+        Ok(Half {
+            variables: self.variables,
+            bounds,
+        })
+    }
+
     // each entry is 0
     fn zero(alloc: Global, variables: usize) -> Result<Half, NoMemory>
         requires { variables ≤ 32 }

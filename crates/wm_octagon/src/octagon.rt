@@ -59,7 +59,7 @@ impl Model for Octagon {
 
 impl Octagon {
     ghost use Rattle.wm_octagon.specs.View.{IsLeast, WithDifference};
-    ghost use Rattle.wm_octagon.specs.Sides.{number_of, IsRangeOf, IsGreatestSum, WithSum};
+    ghost use Rattle.wm_octagon.specs.Sides.{number_of, IsRangeOf, IsGreatestSum, WithSum, WithRange};
 
     /// Each variable has any number of its range. There are at most 32 ranges, whose ends have 32 bits. `NoMemory`: memory
     /// ran out.
@@ -119,6 +119,40 @@ impl Octagon {
         let k = opposite(self.place_of(a));
         let l = self.place_of(b);
         self.keep(k, l, c);
+    }
+
+    /// Keeps the points at which variable `v` lies in `r`, whose ends are below 2^40 in size.
+    pub fn add_range(&mut self, v: usize, r: Interval)
+        requires inside { v < self.old.variables }
+        requires low_size { unsigned_abs r.low < 2 ^ 40 }
+        requires high_size { unsigned_abs r.high < 2 ^ 40 }
+        ensures variables { self.new.variables ≡ self.old.variables }
+        ensures least { IsLeast self.new (WithRange self.old v r.low r.high) }
+    {
+        let (plus, minus) = self.sides_of(v);
+        self.keep(minus, plus, 2 * r.high);
+        self.keep(plus, minus, -2 * r.low);
+    }
+
+    // the numbers of the two sides of a variable
+    fn sides_of(&self, v: usize) -> (usize, usize)
+        requires { v < self.now.variables }
+        ensures plus { result.0 ≡ 2 * v }
+        ensures minus { result.1 ≡ 2 * v + 1 }
+    {
+        let _ = &self.half;
+        (2 * v, 2 * v + 1)
+    }
+
+    /// The same octagon once more. `NoMemory`: memory ran out.
+    pub fn copy(&self, alloc: Global) -> Result<Octagon, NoMemory>
+        ensures same { IfOk result (λ o. o ≡ self.now) }
+    {
+        let half = self.half.copy(alloc)?;
+        Ok(Octagon {
+            half,
+            empty: self.empty,
+        })
     }
 
     // the number of a side in the half table

@@ -1,13 +1,11 @@
-use Rattle.std.proofs.Common.{◌≡◌, ◌∙◌, ℕ, ◌*◌, ◌+◌, ◌<◌, ℤ, pos, ◌-ℤ◌, ◌≤ℤ◌, neg_ℤ, List, Some, arith, subst, sym, ap, refl, to_z, of_z, w64, false, true, not}
-use Rattle.std.proofs.lemmas.Int.{to_z-of_z}
-use Rattle.wm_octagon.specs.HalfTable.{HalfTable, IsSmall}
-use Rattle.wm_octagon.specs.Layout.{opposite, bound}
+use Rattle.std.proofs.Common.{◌≡◌, ◌∙◌, ℕ, ◌*◌, ◌+◌, ◌<◌, ℤ, pos, ◌-ℤ◌, ◌≤ℤ◌, neg_ℤ, List, Some, subst, sym, ap, to_z, of_z, w64}
+use Rattle.wm_octagon.specs.HalfTable.{IsSmall}
+use Rattle.wm_octagon.specs.Layout.{bound}
 use Rattle.wm_octagon.specs.Closing.{half_of, top}
-use Rattle.wm_octagon.specs.View.{OctagonView, IsLeast, IsKept, WithDifference}
-use Rattle.wm_octagon.specs.Sides.{number_of, IsRangeOf, IsSumOf, WithSum}
-use Rattle.wm_numbers.specs.Extremes.{GreatestOf}
+use Rattle.wm_octagon.specs.View.{OctagonView}
+use Rattle.wm_octagon.specs.Sides.{IsRangeOf}
 use Rattle.wm_octagon.proofs.Small.{small_read, half_small, neg-sub, small_negated, fits_negated}
-use Rattle.wm_octagon.proofs.Octagons.{kept-new, range_is, sum_is, add-least, opened, top-plus, top-minus, range_room, kept-close, least-close, difference_from, bound_from, mirrored_from, mirrored_to, number-lt}
+use Rattle.wm_octagon.proofs.Octagons.{range_is, opened, top-plus, top-minus, range_room}
 use mir.Val.{SFits}
 use Rattle.wm_octagon.proofs.octagon.Octagon.range.Goals as goal
 
@@ -26,7 +24,7 @@ ends c =
       low_small = subst IsSmall (sym low) (half_small _ c.bound-2.ensures.small);
       high_small = subst IsSmall (sym high) (half_small _ c.bound.ensures.small);
       low_is = low ∙ ap half_of c.bound-2.ensures.value ∙ top-minus c.self.inside.half.bounds c.args.v;
-      high_is = high ∙ ap half_of c.bound.ensures.value ∙ top-plus c.self.inside.half.bounds c.args.v
+      high_is = high ∙ ap half_of c.bound.ensures.value ∙ top-plus c.self.inside.half.bounds c.args.v;
     }
 
 -- the negative of the lower half, as the code has it
@@ -47,7 +45,7 @@ new-requires c =
     let n = ap (λ (o : OctagonView). o.variables) c.self.view_is in
     let room = range_room c.self.inside.half.variables c.self.inside.half.bounds c.args.v (c.self.invariant.tight c.if-self.false) (subst (λ m. c.args.v < m) (sym n) c.requires) in
     subst (λ z. z ≤ℤ to_z w64 (of_z w64 c.halved-high.result)) (sym (minus_is c))
-      (subst (λ z. neg_ℤ (top (bound c.self.inside.half.bounds) (2 * c.args.v + 1)) ≤ℤ z) (sym (small_read _ e.high_small ∙ e.high_is)) room)
+    (subst (λ z. neg_ℤ (top (bound c.self.inside.half.bounds) (2 * c.args.v + 1)) ≤ℤ z) (sym (small_read _ e.high_small ∙ e.high_is)) room)
 
 -- the same after the interval is made
 minus_after : (c : goal.After-new) → c.new.result.low ≡ neg_ℤ (top (bound c.self.inside.half.bounds) (2 * c.args.v + 1))
@@ -71,6 +69,6 @@ returns-clause-ends c =
     let same = ap (λ (o : OctagonView). o.variables) c.self.view_is in
     let view = opened n xs c.self.inside.empty c.args.self.now c.if-self.false c.self.view_is in
     subst (λ (o : OctagonView). IsRangeOf o c.args.v c.new.result.low c.new.result.high) view
-      (subst (λ z. IsRangeOf (record { variables = n; bounds = Some xs }) c.args.v z c.new.result.high) (sym (minus_after c))
-        (subst (λ z. IsRangeOf (record { variables = n; bounds = Some xs }) c.args.v (neg_ℤ (top (bound xs) (2 * c.args.v + 1))) z) (sym (plus_after c))
-          (range_is n xs c.args.v (c.self.invariant.tight c.if-self.false) (subst (λ m. c.args.v < m) (sym same) c.requires))))
+    (subst (λ z. IsRangeOf (record { variables = n; bounds = Some xs }) c.args.v z c.new.result.high) (sym (minus_after c))
+    (subst (λ z. IsRangeOf (record { variables = n; bounds = Some xs }) c.args.v (neg_ℤ (top (bound xs) (2 * c.args.v + 1))) z) (sym (plus_after c))
+    (range_is n xs c.args.v (c.self.invariant.tight c.if-self.false) (subst (λ m. c.args.v < m) (sym same) c.requires))))
