@@ -3,6 +3,7 @@ pub mod Filled
 pub mod Boxed
 pub mod Closings
 pub mod Least
+pub mod Forgets
 pub mod Moves
 pub mod Octagons
 pub mod Ranges

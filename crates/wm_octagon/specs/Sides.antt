@@ -1,5 +1,5 @@
 -- Signed variables, and what an octagon tells of them.
-use Rattle.std.specs.Prelude.{ℕ, ◌≡◌, ◌+◌, ◌*◌, ℤ, ◌+ℤ◌, ◌≤ℤ◌, neg_ℤ, if◌then◌else◌}
+use Rattle.std.specs.Prelude.{ℕ, ◌≡◌, ◌≢◌, ◌+◌, ◌*◌, ℤ, ◌+ℤ◌, ◌≤ℤ◌, neg_ℤ, if◌then◌else◌}
 use Rattle.wm_numbers.specs.Extremes.{LeastOf, GreatestOf}
 use Rattle.wm_numbers.specs.Within.{Within}
 use Rattle.wm_octagon.specs.declared.octagon.Side.{Side}
@@ -43,3 +43,10 @@ pub record WithSum (o : OctagonView) (a b : Side) (c : ℤ) (x : ℕ → ℤ) : 
 pub record WithRange (o : OctagonView) (v : ℕ) (low high : ℤ) (x : ℕ → ℤ) : Type 0 where
   pub point : Holds o x
   pub inside : Within low high (x v)
+
+-- a point of the octagon, but for variable v, which has any number between two ends
+pub record FreedOf (o : OctagonView) (v : ℕ) (low high : ℤ) (x : ℕ → ℤ) : Type 0 where
+  pub was : ℕ → ℤ
+  pub point : Holds o was
+  pub others : (w : ℕ) → w ≢ v → x w ≡ was w
+  pub value : Within low high (x v)

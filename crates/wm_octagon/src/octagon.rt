@@ -1,13 +1,15 @@
 //! The octagon: integer bounds on variables, their sums and their differences, each attained while there is a point.
 
-ghost use Rattle.std.specs.Prelude.{◌≡◌, ◌≢◌, ◌↔◌, ℕ, ◌+◌, ◌*◌, ◌^◌, ◌<◌, ◌≤◌, ℤ, pos, neg_ℤ, ◌+ℤ◌, ◌-ℤ◌, ◌≤ℤ◌, unsigned_abs, IsTrue, IfOk, All, length, MatchOption, IfSome, IsSome, Option, Some, None};
+ghost use Rattle.std.specs.Prelude.{◌≡◌, ◌≢◌, ◌↔◌, ℕ, ◌+◌, ◌*◌, ◌^◌, ◌<◌, ◌≤◌, ℤ, pos, neg_ℤ, ◌+ℤ◌, ◌-ℤ◌, ◌≤ℤ◌, unsigned_abs, IsTrue, IfOk, All, length, ◌/◌, MatchOption, IfSome, IsSome, Option, Some, None};
 ghost use Rattle.std.specs.Bool.{MatchBool};
 ghost use Rattle.wm_octagon.specs.Ranges.{IsNarrow, InRanges};
 ghost use Rattle.wm_octagon.specs.Points.{side_value};
 ghost use Rattle.wm_octagon.specs.Layout.{opposite};
+ghost use Rattle.wm_octagon.specs.Ways.{at, AllSmall};
 
+use crate::changes::Loosening;
 use crate::half::{Half, halved};
-use crate::layout::{opposite, row_len};
+use crate::layout::{MOST_SIDES, opposite, row_len};
 use std::alloc::Global;
 use std::marker::Model;
 use wm_interval::Interval;
@@ -59,7 +61,7 @@ impl Model for Octagon {
 
 impl Octagon {
     ghost use Rattle.wm_octagon.specs.View.{IsLeast, WithDifference};
-    ghost use Rattle.wm_octagon.specs.Sides.{number_of, IsRangeOf, IsGreatestSum, WithSum, WithRange};
+    ghost use Rattle.wm_octagon.specs.Sides.{number_of, IsRangeOf, IsGreatestSum, WithSum, WithRange, FreedOf};
 
     /// Each variable has any number of its range. There are at most 32 ranges, whose ends have 32 bits. `NoMemory`: memory
     /// ran out.
@@ -134,6 +136,24 @@ impl Octagon {
         self.keep(plus, minus, -2 * r.low);
     }
 
+    /// Sets variable `v` to any number of `r`, whose ends are below 2^40 in size.
+    pub fn forget(&mut self, v: usize, r: Interval)
+        requires inside { v < self.old.variables }
+        requires low_size { unsigned_abs r.low < 2 ^ 40 }
+        requires high_size { unsigned_abs r.high < 2 ^ 40 }
+        ensures variables { self.new.variables ≡ self.old.variables }
+        ensures least { IsLeast self.new (FreedOf self.old v r.low r.high) }
+    {
+        if self.empty {
+            return;
+        }
+        let change = Loosening {
+            variable: v,
+            tops: freed_tops(self.half.tops(), v, r),
+        };
+        self.half.change(&change);
+    }
+
     // the numbers of the two sides of a variable
     fn sides_of(&self, v: usize) -> (usize, usize)
         requires { v < self.now.variables }
@@ -188,4 +208,21 @@ impl Octagon {
         };
         self.empty = !open;
     }
+}
+
+// the greatest value of each side, where variable `v` has any number of `r`
+fn freed_tops(tops: [i64; MOST_SIDES], v: usize, r: Interval) -> [i64; MOST_SIDES]
+    requires inside { v < 32 }
+    requires low_size { unsigned_abs r.low < 2 ^ 40 }
+    requires high_size { unsigned_abs r.high < 2 ^ 40 }
+    requires small { AllSmall tops }
+    ensures plus { at result (2 * v) ≡ r.high }
+    ensures minus { at result (2 * v + 1) ≡ neg_ℤ r.low }
+    ensures others { (k : ℕ) → k / 2 ≢ v → at result k ≡ at tops k }
+    ensures small { AllSmall result }
+{
+    let mut freed = tops;
+    freed[2 * v] = r.high;
+    freed[2 * v + 1] = -r.low;
+    freed
 }
