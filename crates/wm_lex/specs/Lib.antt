@@ -1,0 +1,14 @@
+pub mod Answers
+pub mod Characters
+pub mod Comments
+pub mod Keys
+pub mod Lexemes
+pub mod Lines
+pub mod Macros
+pub mod Numbers
+pub mod Pieces
+pub mod Punctuation
+pub mod Replacing
+pub mod Splices
+pub mod Walks
+pub mod Stages
