@@ -1,1 +1,13 @@
+pub mod Code
+pub mod Execution
+pub mod Examples
+pub mod Failure
+pub mod Laws
+pub mod Numbers
+pub mod Outcomes
+pub mod Runs
 pub mod Settings
+pub mod State
+pub mod Tree
+pub mod Trees
+pub mod WellFormed

@@ -37,7 +37,17 @@ fn program_of(alloc: Global, rows: &[Row]) -> Result<Program, Fail> {
         }
         number = number.saturating_add(1);
     }
-    Ok(Program { objects, inputs })
+    Ok(Program {
+        functions: List::new(alloc),
+        objects,
+        sites: List::new(alloc),
+        loops: List::new(alloc),
+        instances: List::new(alloc),
+        inputs,
+        constants: List::new(alloc),
+        init: None,
+        frame: 0,
+    })
 }
 
 /// The numbers of each frame, or the fault, as text.
