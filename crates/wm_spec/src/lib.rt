@@ -5,6 +5,8 @@ mod fault;
 mod inputs;
 mod lists;
 mod read;
+#[cfg(test)]
+mod tests;
 mod values;
 
 pub use fault::SpecFault;
