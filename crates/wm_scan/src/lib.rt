@@ -2,6 +2,8 @@
 //! arguments in the boxes in lexicographic order and looks at what the operator gives.
 #![tactic(auto)]
 
+#[cfg(test)]
+mod boundary;
 mod fitting;
 mod scanning;
 #[cfg(test)]

@@ -12,6 +12,10 @@ struct Seen {
     first: Option<[i64; 3]>,
 }
 
+/// The ends of a range and the first failing arguments.
+#[cfg(test)]
+pub(crate) type Found = (Option<(i64, i64)>, Option<[i64; 3]>);
+
 fn with_value(seen: Seen, value: i64) -> Seen {
     let range = match seen.range {
         None => (value, value),
@@ -101,6 +105,19 @@ fn same_range(range: Option<Interval>, seen: Option<(i64, i64)>) -> bool {
         None => seen.is_none(),
         Some(found) => seen == Some((found.low, found.high)),
     }
+}
+
+/// The ends of the exact range and the first failure over the boxes; None where they do not lie in the argument types.
+#[cfg(test)]
+pub(crate) fn found(op: Op, x: Interval, y: Interval, z: Interval) -> Option<Found> {
+    if !boxes_fit(op, x, y, z) {
+        return None;
+    }
+    let range = match hull(op, &[x, y, z]) {
+        None => None,
+        Some(found) => Some((found.low, found.high)),
+    };
+    Some((range, worst(op, &[x, y, z])))
 }
 
 /// Whether the exact range and the first failure over the boxes are what the scan sees; also where the boxes do not lie
