@@ -20,3 +20,6 @@ mod walk;
 
 pub use fault::LexFault;
 pub use lexing::lex;
+
+#[cfg(test)]
+mod tests;
