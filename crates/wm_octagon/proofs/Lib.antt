@@ -1,3 +1,4 @@
+pub mod Assigns
 pub mod Attained
 pub mod Filled
 pub mod Boxed

@@ -1,3 +1,4 @@
+pub mod Assigning
 pub mod Changes
 pub mod Closing
 pub mod HalfTable

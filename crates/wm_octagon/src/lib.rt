@@ -2,6 +2,7 @@
 //! so tight that an integer point attains each.
 #![tactic(auto)]
 
+mod assigning;
 mod changes;
 mod closing;
 mod half;
