@@ -1,23 +1,23 @@
 -- What a variable that got a new value leaves of an octagon.
-use Rattle.std.proofs.Common.{◌≡◌, ◌⊎◌, inl, inr, ℕ, ◌+◌, ◌*◌, ◌/◌, ◌<◌, ◌≤◌, ◌≢◌, ℤ, pos, negsuc, ◌+ℤ◌, ◌≤ℤ◌, neg_ℤ, ◌^◌, unsigned_abs, List, Some, refl, sym, ◌∙◌, ap, subst, arith, nat_eq, cond, true, false, to_z, of_z, w64}
+use Rattle.std.proofs.Common.{◌≡◌, inl, inr, ℕ, ◌+◌, ◌*◌, ◌/◌, ◌<◌, ◌≤◌, ◌≢◌, ℤ, pos, negsuc, ◌+ℤ◌, ◌≤ℤ◌, ◌^◌, unsigned_abs, List, Some, refl, sym, ◌∙◌, ap, subst, arith, nat_eq, cond, true, false, to_z, of_z, w64}
 use Rattle.std.proofs.lemmas.Int.{ints}
 use Rattle.std.proofs.lemmas.Bool.{cases_eq}
 use Rattle.wm_numbers.specs.Within.{Within}
 use Rattle.wm_octagon.specs.Layout.{opposite, row_len, entry, bound, table}
-use Rattle.wm_octagon.specs.HalfTable.{HalfTable, IsSmall}
+use Rattle.wm_octagon.specs.HalfTable.{IsSmall}
 use Rattle.wm_octagon.specs.Medium.{Filled}
 use Rattle.wm_octagon.specs.Ways.{at}
-use Rattle.wm_octagon.specs.Points.{IsPoint, IsTight, LeastOctagon}
+use Rattle.wm_octagon.specs.Points.{IsTight, LeastOctagon}
 use Rattle.wm_octagon.specs.Changes.{source_of, rise, assigned, Assigned}
 use Rattle.wm_octagon.specs.Assigning.{read_of, risen, AssignedOf}
 use Rattle.wm_octagon.specs.View.{OctagonView, IsBoxed, IsKept}
 use Rattle.wm_octagon.proofs.Rows.{entry-table}
-use Rattle.wm_octagon.proofs.Tables.{IsTable, opposite-opposite, opposite-lt}
+use Rattle.wm_octagon.proofs.Tables.{opposite-opposite, opposite-lt}
 use Rattle.wm_octagon.proofs.Tight.{bound_here, column-lt, table_of}
 use Rattle.wm_octagon.proofs.Closings.{table-ext}
 use Rattle.wm_octagon.proofs.Small.{abs_within}
 use Rattle.wm_octagon.proofs.Least.{tight_of_least}
-use Rattle.wm_octagon.proofs.Moves.{assign-least, source-lt, source_plus, source_minus, source_other, which, Which, plus, minus, other}
+use Rattle.wm_octagon.proofs.Moves.{assign-least, source-lt, source_plus, source_minus, source_other, which, plus, minus, other}
 use Rattle.wm_octagon.proofs.Boxed.{InBox, small_of_least, boxed_of_least}
 use Rattle.wm_octagon.proofs.Octagons.{least_iso}
 

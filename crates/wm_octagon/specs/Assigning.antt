@@ -1,5 +1,5 @@
 -- The bounds after a variable got the value of a side and a number of an interval, read from two rows of the old ones.
-use Rattle.std.specs.Prelude.{ℕ, ◌≡◌, ◌≢◌, ◌+◌, ◌*◌, nat_eq, ℤ, pos, negsuc, ◌+ℤ◌, neg_ℤ, if◌then◌else◌}
+use Rattle.std.specs.Prelude.{ℕ, ◌≡◌, ◌≢◌, ◌+◌, ◌*◌, nat_eq, ℤ, pos, negsuc, ◌+ℤ◌, if◌then◌else◌}
 use Rattle.wm_numbers.specs.Within.{Within}
 use Rattle.wm_octagon.specs.Layout.{opposite}
 use Rattle.wm_octagon.specs.Changes.{source_of, rise}

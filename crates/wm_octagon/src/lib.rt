@@ -8,6 +8,7 @@ mod closing;
 mod half;
 mod layout;
 mod octagon;
+mod pairs;
 #[cfg(test)]
 mod tests;
 

@@ -61,7 +61,8 @@ impl Model for Octagon {
 }
 
 impl Octagon {
-    ghost use Rattle.wm_octagon.specs.View.{IsLeast, WithDifference};
+    ghost use Rattle.wm_octagon.specs.View.{Holds, IsLeast, WithDifference};
+    ghost use Rattle.wm_octagon.specs.Joining.{InEither};
     ghost use Rattle.wm_octagon.specs.Sides.{number_of, IsRangeOf, IsGreatestSum, WithSum, WithRange, FreedOf};
     ghost use Rattle.wm_octagon.specs.Assigning.{AssignedOf};
     ghost use Rattle.wm_numbers.specs.Within.{Within};
@@ -217,6 +218,38 @@ impl Octagon {
     {
         let _ = &self.half;
         (2 * v, 2 * v + 1)
+    }
+
+    /// Becomes the least octagon that holds the points of both, which have equally many variables.
+    pub fn join_with(&mut self, other: &Octagon)
+        requires { self.old.variables ≡ other.now.variables }
+        ensures variables { self.new.variables ≡ self.old.variables }
+        ensures least { IsLeast self.new (InEither self.old other.now) }
+    {
+        let _ = &self.half;
+        if other.empty {
+            return;
+        }
+        if self.empty {
+            self.half.become_like(&other.half);
+            self.empty = false;
+            return;
+        }
+        self.half.raise(&other.half);
+    }
+
+    /// Whether each point is one of the other, which has equally many variables.
+    pub fn within(&self, other: &Octagon) -> bool
+        requires { self.now.variables ≡ other.now.variables }
+        ensures inclusion { IsTrue result ↔ ((x : ℕ → ℤ) → Holds self.now x → Holds other.now x) }
+    {
+        if self.empty {
+            return true;
+        }
+        if other.empty {
+            return false;
+        }
+        self.half.is_below(&other.half)
     }
 
     /// The same octagon once more. `NoMemory`: memory ran out.

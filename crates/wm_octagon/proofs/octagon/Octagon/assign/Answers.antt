@@ -1,4 +1,4 @@
-use Rattle.std.proofs.Common.{◌≡◌, ◌∙◌, ℕ, ◌*◌, ◌<◌, ℤ, List, Some, None, Bool, cond, false, sym, subst, ap, to_z, of_z, w64}
+use Rattle.std.proofs.Common.{◌≡◌, ◌∙◌, ◌*◌, ◌<◌, Some, None, Bool, cond, sym, subst, ap, to_z, of_z, w64}
 use Rattle.wm_octagon.specs.HalfTable.{HalfTable, IsSmall}
 use Rattle.wm_octagon.specs.Layout.{bound, entry, table}
 use Rattle.wm_octagon.specs.Changes.{assigned}
@@ -6,7 +6,7 @@ use Rattle.wm_octagon.specs.Assigning.{risen, AssignedOf}
 use Rattle.wm_octagon.specs.Ways.{at}
 use Rattle.wm_octagon.specs.View.{OctagonView, LeastOf, IsKept}
 use Rattle.wm_octagon.proofs.Octagons.{opened}
-use Rattle.wm_octagon.proofs.Assigns.{TwoRows, two_rows, Fits, fits_of, low_read, assign-table, assign-sized, assign-kept, assigned-least}
+use Rattle.wm_octagon.proofs.Assigns.{two_rows, fits_of, low_read, assign-table, assign-sized, assign-kept, assigned-least}
 use Rattle.wm_octagon.proofs.octagon.Octagon.assign.Goals as goal
 
 pub change-requires-clause-sized : goal.change-requires-clause-sized
