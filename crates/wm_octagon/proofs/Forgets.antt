@@ -1,16 +1,16 @@
 -- What a variable that is set free leaves of an octagon.
-use Rattle.std.proofs.Common.{◌≡◌, ◌⊎◌, inl, inr, ℕ, ◌+◌, ◌*◌, ◌/◌, ◌<◌, ◌≤◌, ◌≢◌, ℤ, pos, negsuc, ◌≤ℤ◌, neg_ℤ, ◌^◌, unsigned_abs, List, Some, refl, sym, ◌∙◌, ap, subst, arith, nat_eq, ◌||◌, cond, false}
+use Rattle.std.proofs.Common.{◌≡◌, inl, inr, ℕ, ◌+◌, ◌*◌, ◌/◌, ◌<◌, ◌≤◌, ◌≢◌, ℤ, pos, negsuc, ◌≤ℤ◌, neg_ℤ, ◌^◌, unsigned_abs, List, Some, sym, ◌∙◌, ap, subst, arith, nat_eq, ◌||◌, cond, false}
 use Rattle.std.proofs.lemmas.Int.{ints}
 use Rattle.std.proofs.lemmas.Bool.{cases_eq}
 use Rattle.wm_numbers.specs.Within.{Within}
 use Rattle.wm_octagon.specs.Layout.{row_len, entry, bound, table}
 use Rattle.wm_octagon.specs.Closing.{top}
-use Rattle.wm_octagon.specs.HalfTable.{HalfTable, IsSmall}
+use Rattle.wm_octagon.specs.HalfTable.{IsSmall}
 use Rattle.wm_octagon.specs.Medium.{Filled}
 use Rattle.wm_octagon.specs.Ways.{at}
-use Rattle.wm_octagon.specs.Points.{IsPoint, IsTight, LeastOctagon}
+use Rattle.wm_octagon.specs.Points.{IsTight, LeastOctagon}
 use Rattle.wm_octagon.specs.Changes.{apart, loosened, Forgotten}
-use Rattle.wm_octagon.specs.View.{OctagonView, IsBoxed, IsKept}
+use Rattle.wm_octagon.specs.View.{IsBoxed, IsKept}
 use Rattle.wm_octagon.specs.Sides.{FreedOf}
 use Rattle.wm_octagon.proofs.Rows.{entry-table}
 use Rattle.wm_octagon.proofs.Small.{abs_within}

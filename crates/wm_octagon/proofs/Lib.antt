@@ -1,10 +1,13 @@
+pub mod Assigns
 pub mod Attained
 pub mod Filled
 pub mod Boxed
 pub mod Closings
+pub mod Joins
 pub mod Least
 pub mod Forgets
 pub mod Moves
+pub mod OctagonJoins
 pub mod Octagons
 pub mod Ranges
 pub mod Rows

@@ -280,16 +280,16 @@ forget-least n xs v low high tops t f o = record {
 -- ---- a variable gets a new value
 
 -- the old value that side k is measured by: of v the one of side s, of another its own
-source_plus : (v s : ℕ) → source_of v s (2 * v) ≡ s
+pub source_plus : (v s : ℕ) → source_of v s (2 * v) ≡ s
 source_plus v s = let e : nat_eq (2 * v) (2 * v) ≡ true = grind arith in rw e refl
 
-source_minus : (v s : ℕ) → source_of v s (2 * v + 1) ≡ opposite s
+pub source_minus : (v s : ℕ) → source_of v s (2 * v + 1) ≡ opposite s
 source_minus v s =
     let e : nat_eq (2 * v + 1) (2 * v) ≡ false = grind arith in
     let f : nat_eq (2 * v + 1) (2 * v + 1) ≡ true = grind arith in
     rw (e, f) refl
 
-source_other : (v s k : ℕ) → k / 2 ≢ v → source_of v s k ≡ k
+pub source_other : (v s k : ℕ) → k / 2 ≢ v → source_of v s k ≡ k
 source_other v s k h =
     let e : nat_eq k (2 * v) ≡ false = grind arith in
     let f : nat_eq k (2 * v + 1) ≡ false = grind arith in
@@ -310,7 +310,7 @@ rise_other v low high k h =
     let f : nat_eq k (2 * v + 1) ≡ false = grind arith in
     rw (e, f) refl
 
-source-lt : (n v s k : ℕ) → s < 2 * n → k < 2 * n → source_of v s k < 2 * n
+pub source-lt : (n v s k : ℕ) → s < 2 * n → k < 2 * n → source_of v s k < 2 * n
 source-lt n v s k hs hk = elim (which v k) [
   | plus e ↦ subst (λ j. source_of v s j < 2 * n) (sym e) (subst (λ j. j < 2 * n) (sym (source_plus v s)) hs)
   | minus e ↦ subst (λ j. source_of v s j < 2 * n) (sym e) (subst (λ j. j < 2 * n) (sym (source_minus v s)) (opposite-lt n s hs))

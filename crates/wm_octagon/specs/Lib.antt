@@ -1,6 +1,8 @@
+pub mod Assigning
 pub mod Changes
 pub mod Closing
 pub mod HalfTable
+pub mod Joining
 pub mod Layout
 pub mod Medium
 pub mod Points

@@ -5,13 +5,15 @@ ghost use Rattle.std.specs.Bool.{MatchBool, OnTrue};
 ghost use Rattle.wm_octagon.specs.Layout.{opposite, row_len, entry, bound, table};
 ghost use Rattle.wm_octagon.specs.Closing.{half_of, top, list_with};
 ghost use Rattle.wm_octagon.specs.Points.{IsPoint, IsTight, LeastOctagon, WithBound};
-ghost use Rattle.wm_octagon.specs.HalfTable.{IsSmall};
+ghost use Rattle.wm_octagon.specs.HalfTable.{IsSmall, IsWhole};
+ghost use Rattle.wm_octagon.specs.Joining.{greater_of, IsBelow};
 ghost use Rattle.wm_octagon.specs.Medium.{Filled};
 ghost use Rattle.wm_octagon.specs.Ranges.{IsNarrow, InRanges, range_top, box_table};
 
 use crate::changes::Boxing;
 use crate::closing::{Closing, plus};
 use crate::layout::{Change, MOST_SIDES, change_all, opposite, place, row_start};
+use crate::pairs::{all_below, raise_all};
 use std::alloc::Global;
 use std::marker::Model;
 use wm_interval::Interval;
@@ -63,6 +65,37 @@ impl Half {
             variables: self.variables,
             bounds,
         })
+    }
+
+    /// Takes over the bounds of another of as many variables.
+    pub(crate) fn become_like(&mut self, other: &Half)
+        requires { self.old.variables ≡ other.now.variables }
+        ensures { self.new ≡ other.now }
+    {
+        let _ = &other.variables;
+        self.bounds
+            .as_mut_slice()
+            .copy_from_slice(other.bounds.as_slice());
+    }
+
+    /// Keeps the greater of each two bounds of two half tables of as many variables.
+    pub(crate) fn raise(&mut self, other: &Half)
+        requires { self.old.variables ≡ other.now.variables }
+        ensures value { self.new ≡ record self.old { bounds = greater_of self.old.bounds other.now.bounds } }
+        ensures whole { IsWhole self.old.variables self.old.bounds }
+    {
+        let _ = &other.variables;
+        raise_all(self.bounds.as_mut_slice(), other.bounds.as_slice());
+    }
+
+    /// Whether each bound is at most that of another half table of as many variables.
+    pub(crate) fn is_below(&self, other: &Half) -> bool
+        requires { self.now.variables ≡ other.now.variables }
+        ensures value { IsTrue result ↔ IsBelow self.now.bounds other.now.bounds }
+        ensures whole { IsWhole self.now.variables self.now.bounds }
+    {
+        let _ = &other.variables;
+        all_below(self.bounds.as_slice(), other.bounds.as_slice())
     }
 
     // each entry is 0

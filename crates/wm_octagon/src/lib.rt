@@ -2,11 +2,13 @@
 //! so tight that an integer point attains each.
 #![tactic(auto)]
 
+mod assigning;
 mod changes;
 mod closing;
 mod half;
 mod layout;
 mod octagon;
+mod pairs;
 #[cfg(test)]
 mod tests;
 

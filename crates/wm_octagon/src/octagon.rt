@@ -1,12 +1,13 @@
 //! The octagon: integer bounds on variables, their sums and their differences, each attained while there is a point.
 
-ghost use Rattle.std.specs.Prelude.{◌≡◌, ◌≢◌, ◌↔◌, ℕ, ◌+◌, ◌*◌, ◌^◌, ◌<◌, ◌≤◌, ℤ, pos, neg_ℤ, ◌+ℤ◌, ◌-ℤ◌, ◌≤ℤ◌, unsigned_abs, IsTrue, IfOk, All, length, ◌/◌, MatchOption, IfSome, IsSome, Option, Some, None};
+ghost use Rattle.std.specs.Prelude.{◌≡◌, ◌≢◌, ◌↔◌, ℕ, ◌+◌, ◌*◌, ◌^◌, ◌<◌, ◌≤◌, ℤ, pos, negsuc, neg_ℤ, ◌+ℤ◌, ◌-ℤ◌, ◌≤ℤ◌, unsigned_abs, IsTrue, IfOk, All, length, ◌/◌, MatchOption, IfSome, IsSome, Option, Some, None, if◌then◌else◌};
 ghost use Rattle.std.specs.Bool.{MatchBool};
 ghost use Rattle.wm_octagon.specs.Ranges.{IsNarrow, InRanges};
 ghost use Rattle.wm_octagon.specs.Points.{side_value};
 ghost use Rattle.wm_octagon.specs.Layout.{opposite};
 ghost use Rattle.wm_octagon.specs.Ways.{at, AllSmall};
 
+use crate::assigning::Assigning;
 use crate::changes::Loosening;
 use crate::half::{Half, halved};
 use crate::layout::{MOST_SIDES, opposite, row_len};
@@ -60,8 +61,11 @@ impl Model for Octagon {
 }
 
 impl Octagon {
-    ghost use Rattle.wm_octagon.specs.View.{IsLeast, WithDifference};
+    ghost use Rattle.wm_octagon.specs.View.{Holds, IsLeast, WithDifference};
+    ghost use Rattle.wm_octagon.specs.Joining.{InEither};
     ghost use Rattle.wm_octagon.specs.Sides.{number_of, IsRangeOf, IsGreatestSum, WithSum, WithRange, FreedOf};
+    ghost use Rattle.wm_octagon.specs.Assigning.{AssignedOf};
+    ghost use Rattle.wm_numbers.specs.Within.{Within};
 
     /// Each variable has any number of its range. There are at most 32 ranges, whose ends have 32 bits. `NoMemory`: memory
     /// ran out.
@@ -154,6 +158,58 @@ impl Octagon {
         self.half.change(&change);
     }
 
+    /// Sets variable `v` to itself plus `c`, or to its negative plus `c`. `c` and the new values are below 2^40 in size.
+    pub fn shift(&mut self, v: usize, negate: bool, c: i64)
+        requires inside { v < self.old.variables }
+        requires size { unsigned_abs c < 2 ^ 40 }
+        requires fits { (x : ℕ → ℤ) → AssignedOf self.old v (2 * v + (if negate then 1 else 0)) c c x → Within (negsuc 1099511627774) (pos 1099511627775) (x v) }
+        ensures variables { self.new.variables ≡ self.old.variables }
+        ensures least { IsLeast self.new (AssignedOf self.old v (2 * v + (if negate then 1 else 0)) c c) }
+    {
+        let (plus, minus) = self.sides_of(v);
+        let source = if negate { minus } else { plus };
+        self.assign(v, source, Interval::new(c, c));
+    }
+
+    /// Sets variable `v` to variable `w` plus any number of `d`; both may be one variable. The numbers of `d` and the new
+    /// values are below 2^40 in size.
+    pub fn assign_difference(&mut self, v: usize, w: usize, d: Interval)
+        requires inside { v < self.old.variables }
+        requires from { w < self.old.variables }
+        requires low_size { unsigned_abs d.low < 2 ^ 40 }
+        requires high_size { unsigned_abs d.high < 2 ^ 40 }
+        requires fits { (x : ℕ → ℤ) → AssignedOf self.old v (2 * w) d.low d.high x → Within (negsuc 1099511627774) (pos 1099511627775) (x v) }
+        ensures variables { self.new.variables ≡ self.old.variables }
+        ensures least { IsLeast self.new (AssignedOf self.old v (2 * w) d.low d.high) }
+    {
+        let (source, _) = self.sides_of(w);
+        self.assign(v, source, d);
+    }
+
+    // sets variable `v` to the value of side `source` and a number of `d`
+    fn assign(&mut self, v: usize, source: usize, d: Interval)
+        requires inside { v < self.old.variables }
+        requires source { source < 2 * self.old.variables }
+        requires low_size { unsigned_abs d.low < 2 ^ 40 }
+        requires high_size { unsigned_abs d.high < 2 ^ 40 }
+        requires fits { (x : ℕ → ℤ) → AssignedOf self.old v source d.low d.high x → Within (negsuc 1099511627774) (pos 1099511627775) (x v) }
+        ensures variables { self.new.variables ≡ self.old.variables }
+        ensures least { IsLeast self.new (AssignedOf self.old v source d.low d.high) }
+    {
+        if self.empty {
+            return;
+        }
+        let change = Assigning {
+            variable: v,
+            source,
+            source_row: self.half.row(source),
+            mirror_row: self.half.row(opposite(source)),
+            low: d.low,
+            high: d.high,
+        };
+        self.half.change(&change);
+    }
+
     // the numbers of the two sides of a variable
     fn sides_of(&self, v: usize) -> (usize, usize)
         requires { v < self.now.variables }
@@ -162,6 +218,38 @@ impl Octagon {
     {
         let _ = &self.half;
         (2 * v, 2 * v + 1)
+    }
+
+    /// Becomes the least octagon that holds the points of both, which have equally many variables.
+    pub fn join_with(&mut self, other: &Octagon)
+        requires { self.old.variables ≡ other.now.variables }
+        ensures variables { self.new.variables ≡ self.old.variables }
+        ensures least { IsLeast self.new (InEither self.old other.now) }
+    {
+        let _ = &self.half;
+        if other.empty {
+            return;
+        }
+        if self.empty {
+            self.half.become_like(&other.half);
+            self.empty = false;
+            return;
+        }
+        self.half.raise(&other.half);
+    }
+
+    /// Whether each point is one of the other, which has equally many variables.
+    pub fn within(&self, other: &Octagon) -> bool
+        requires { self.now.variables ≡ other.now.variables }
+        ensures inclusion { IsTrue result ↔ ((x : ℕ → ℤ) → Holds self.now x → Holds other.now x) }
+    {
+        if self.empty {
+            return true;
+        }
+        if other.empty {
+            return false;
+        }
+        self.half.is_below(&other.half)
     }
 
     /// The same octagon once more. `NoMemory`: memory ran out.

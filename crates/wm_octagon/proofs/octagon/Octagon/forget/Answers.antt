@@ -1,4 +1,4 @@
-use Rattle.std.proofs.Common.{◌≡◌, ◌∙◌, ℕ, ◌*◌, ℤ, List, Some, None, Bool, cond, false, sym, subst, ap}
+use Rattle.std.proofs.Common.{◌≡◌, ◌∙◌, ◌*◌, Some, None, Bool, cond, sym, subst, ap}
 use Rattle.wm_octagon.specs.HalfTable.{HalfTable}
 use Rattle.wm_octagon.specs.Layout.{bound, table}
 use Rattle.wm_octagon.specs.Changes.{loosened}
