@@ -1,0 +1,7 @@
+use Rattle.std.proofs.Common.{◌≡◌, ◌++◌}
+use Rattle.wm_gen.specs.Example.{function_line, lines_to}
+use Rattle.wm_gen.proofs.lines.push_functions.Given as goal
+
+-- the lines so far
+abbrev pub invariant-loop-before : goal.invariant-loop-before
+invariant-loop-before l = l.text ≡ l.fn.text ++ lines_to function_line l.before

@@ -1,0 +1,12 @@
+//! A generated codec of any number of stages, to try the prover on: its specification and its one source file.
+#![tactic(auto)]
+
+mod files;
+mod lines;
+#[cfg(test)]
+mod tests;
+mod text;
+mod writing;
+
+pub use files::Example;
+pub use writing::example;
