@@ -9,6 +9,7 @@ pub mod Forgets
 pub mod Moves
 pub mod OctagonJoins
 pub mod Octagons
+pub mod Projects
 pub mod Ranges
 pub mod Rows
 pub mod Small

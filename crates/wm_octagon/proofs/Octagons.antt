@@ -1,7 +1,7 @@
 -- What the calls of an octagon leave and tell, from what its half table leaves and tells.
-use Rattle.std.proofs.Common.{◌≡◌, ℕ, ◌+◌, ◌*◌, ◌<◌, ◌≤◌, ℤ, pos, ◌+ℤ◌, ◌≤ℤ◌, ◌<ℤ◌, neg_ℤ, List, Option, Some, None, length, sym, ◌∙◌, ap, subst, arith, Bool, true, false, cond, not}
+use Rattle.std.proofs.Common.{◌≡◌, ℕ, ◌+◌, ◌*◌, ◌<◌, ◌≤◌, ℤ, pos, ◌+ℤ◌, ◌≤ℤ◌, ◌<ℤ◌, neg_ℤ, List, Option, Some, None, length, refl, sym, ◌∙◌, ap, subst, arith, Bool, true, false, cond, not}
 use Rattle.std.proofs.lemmas.Int.{ints}
-use Rattle.std.specs.Prelude.{All}
+use Rattle.std.specs.Prelude.{All, IsTrue}
 use Rattle.std.specs.Bool.{MatchBool, OnTrue}
 use Rattle.wm_interval.specs.declared.Interval.{Interval}
 use Rattle.wm_octagon.specs.Layout.{opposite, bound}
@@ -11,7 +11,7 @@ use Rattle.wm_octagon.specs.Points.{side_value, IsPoint, IsTight, LeastOctagon, 
 use Rattle.wm_octagon.specs.Ranges.{IsNarrow, InRanges, box_table}
 use Rattle.wm_octagon.specs.declared.octagon.Side.{Side}
 use Rattle.wm_octagon.specs.View as view
-use Rattle.wm_octagon.specs.View.{OctagonView, Holds, IsLeast, WithDifference, IsBoxed, IsKept}
+use Rattle.wm_octagon.specs.View.{OctagonView, Holds, IsLeast, IsTightView, WithDifference, IsBoxed, IsKept}
 use Rattle.wm_octagon.specs.Sides.{number_of, signed, IsRangeOf, IsGreatestSum, WithSum, WithRange}
 use Rattle.wm_octagon.proofs.Tables.{opposite-lt}
 use Rattle.wm_octagon.proofs.Attained.{side_value-opposite}
@@ -288,3 +288,19 @@ range-given o mid new v low high k l i j c d h em en tm tn ek el ei ej ec ed =
     range-least o mid new v low high h em en
     (subst (λ z. IsLeast mid (WithDifference o (2 * v + 1) (2 * v) z)) ec (subst (λ z. IsLeast mid (WithDifference o (2 * v + 1) z c)) el (subst (λ z. IsLeast mid (WithDifference o z l c)) ek tm)))
     (subst (λ z. IsLeast new (WithDifference mid (2 * v) (2 * v + 1) z)) ed (subst (λ z. IsLeast new (WithDifference mid (2 * v) z d)) ej (subst (λ z. IsLeast new (WithDifference mid z j d)) ei tn)))
+
+-- ---- whether there is a point
+
+tight_by : (n : ℕ) (xs : List ℤ) (e : Bool) → IsKept n xs e → IsTightView (record { variables = n; bounds = cond e None (Some xs) })
+tight_by n xs true k = tt
+tight_by n xs false k = k.tight refl
+
+pub tight_view : (n : ℕ) (xs : List ℤ) (e : Bool) (o : OctagonView) → IsKept n xs e → record { variables = n; bounds = cond e None (Some xs) } ≡ o → IsTightView o
+tight_view n xs e o k v = subst (λ (q : OctagonView). IsTightView q) v (tight_by n xs e k)
+
+pointless_by : (n : ℕ) (xs : List ℤ) (e : Bool) → IsKept n xs e → (IsTrue e → (x : ℕ → ℤ) → Holds (record { variables = n; bounds = cond e None (Some xs) }) x → ⊥) × (((x : ℕ → ℤ) → Holds (record { variables = n; bounds = cond e None (Some xs) }) x → ⊥) → IsTrue e)
+pointless_by n xs true k = (λ _ x p. p, λ _. refl)
+pointless_by n xs false k = (λ t. absurd (cc), λ none. absurd (none (k.tight refl).point (k.tight refl).is_point))
+
+pub pointless : (n : ℕ) (xs : List ℤ) (e : Bool) (o : OctagonView) → IsKept n xs e → record { variables = n; bounds = cond e None (Some xs) } ≡ o → (IsTrue e → (x : ℕ → ℤ) → Holds o x → ⊥) × (((x : ℕ → ℤ) → Holds o x → ⊥) → IsTrue e)
+pointless n xs e o k v = subst (λ (q : OctagonView). (IsTrue e → (x : ℕ → ℤ) → Holds q x → ⊥) × (((x : ℕ → ℤ) → Holds q x → ⊥) → IsTrue e)) v (pointless_by n xs e k)

@@ -39,10 +39,10 @@ narrow_tiny (r ∷ rs) zero a =
     (record { above = omega (arith, ints); below = omega (arith, ints) }, record { above = omega (arith, ints); below = omega (arith, ints) })
 narrow_tiny (r ∷ rs) (suc v) a = narrow_tiny rs v (λ k d h. a (suc k) d (omega arith))
 
-top-even : (rs : List Interval) (k : ℕ) → k % 2 ≡ 0 → range_top rs k ≡ high_of rs (k / 2)
+pub top-even : (rs : List Interval) (k : ℕ) → k % 2 ≡ 0 → range_top rs k ≡ high_of rs (k / 2)
 top-even rs k e = rw e refl
 
-top-odd : (rs : List Interval) (k : ℕ) → k % 2 ≡ 1 → range_top rs k ≡ neg_ℤ (low_of rs (k / 2))
+pub top-odd : (rs : List Interval) (k : ℕ) → k % 2 ≡ 1 → range_top rs k ≡ neg_ℤ (low_of rs (k / 2))
 top-odd rs k e = rw e refl
 
 pub range_top-plus : (rs : List Interval) (v : ℕ) → range_top rs (2 * v) ≡ high_of rs v
@@ -83,7 +83,7 @@ pick rs k hk =
       }
     ]
 
-low_point : (rs : List Interval) → InRanges rs (low_of rs)
+pub low_point : (rs : List Interval) → InRanges rs (low_of rs)
 low_point rs = record { inside = λ v h. let o = ordered rs v h in record { above = omega (arith, ints); below = o } }
 
 in_moved : (rs : List Interval) (x : ℕ → ℤ) (v : ℕ) (t : ℤ) → InRanges rs x → Within (low_of rs v) (high_of rs v) t → InRanges rs (moved x v t)
@@ -94,20 +94,20 @@ in_moved rs x v t p w = record {
   ];
 }
 
-apart-same : (tops : ℕ → ℤ) (k l : ℕ) → k ≡ l → apart tops k l ≡ pos 0
+pub apart-same : (tops : ℕ → ℤ) (k l : ℕ) → k ≡ l → apart tops k l ≡ pos 0
 apart-same tops k l h = let e : nat_eq k l ≡ true = grind arith in rw e refl
 
-apart-other : (tops : ℕ → ℤ) (k l : ℕ) → k ≢ l → apart tops k l ≡ tops (opposite k) +ℤ tops l
+pub apart-other : (tops : ℕ → ℤ) (k l : ℕ) → k ≢ l → apart tops k l ≡ tops (opposite k) +ℤ tops l
 apart-other tops k l h = let e : nat_eq k l ≡ false = grind arith in rw e refl
 
 -- a point of the ranges at which two different sides are both at their greatest
-record Both (rs : List Interval) (k l : ℕ) : Type 0 where
-  x : ℕ → ℤ
-  is : InRanges rs x
-  first : side_value x (opposite k) ≡ range_top rs (opposite k)
-  second : side_value x l ≡ range_top rs l
+pub record Both (rs : List Interval) (k l : ℕ) : Type 0 where
+  pub x : ℕ → ℤ
+  pub is : InRanges rs x
+  pub first : side_value x (opposite k) ≡ range_top rs (opposite k)
+  pub second : side_value x l ≡ range_top rs l
 
-both : (rs : List Interval) (k l : ℕ) → k < 2 * length rs → l < 2 * length rs → k ≢ l → Both rs k l
+pub both : (rs : List Interval) (k l : ℕ) → k < 2 * length rs → l < 2 * length rs → k ≢ l → Both rs k l
 both rs k l hk hl d =
     let p = pick rs (opposite k) (opposite-lt (length rs) k hk) in
     let q = pick rs l hl in
@@ -175,7 +175,7 @@ box-least rs = record {
 
 -- ---- the list that the code builds
 
-tiny-top : (rs : List Interval) (k : ℕ) → All IsNarrow rs → Within (negsuc 2147483647) (pos 2147483648) (range_top rs k)
+pub tiny-top : (rs : List Interval) (k : ℕ) → All IsNarrow rs → Within (negsuc 2147483647) (pos 2147483648) (range_top rs k)
 tiny-top rs k a =
     let n = narrow_tiny rs (k / 2) a in
     let l = n.0.above in

@@ -6,6 +6,7 @@ pub mod Joining
 pub mod Layout
 pub mod Medium
 pub mod Points
+pub mod Projecting
 pub mod Ranges
 pub mod Sides
 pub mod View

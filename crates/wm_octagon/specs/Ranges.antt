@@ -22,6 +22,10 @@ high_of rs v = slice_index_or (map (λ r. r.high) rs) v (pos 0)
 abbrev pub range_top : List Interval → ℕ → ℤ
 range_top rs k = if nat_eq (k % 2) 0 then high_of rs (k / 2) else neg_ℤ (low_of rs (k / 2))
 
+-- the greatest value of side k, whose variable has any number of r
+abbrev pub end_of : Interval → ℕ → ℤ
+end_of r k = if nat_eq (k % 2) 0 then r.high else neg_ℤ r.low
+
 -- x gives each variable a number of its range
 pub record InRanges (rs : List Interval) (x : ℕ → ℤ) : Type 0 where
   pub inside : (v : ℕ) → v < length rs → Within (low_of rs v) (high_of rs v) (x v)

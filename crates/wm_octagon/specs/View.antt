@@ -1,5 +1,5 @@
 -- What an octagon is seen as, and its points.
-use Rattle.std.specs.Prelude.{ℕ, ◌≡◌, ◌<◌, ◌≤◌, ℤ, pos, negsuc, ◌-ℤ◌, ◌≤ℤ◌, List, Option, Some, None, Bool, false}
+use Rattle.std.specs.Prelude.{ℕ, ◌≡◌, ◌<◌, ◌≤◌, ℤ, pos, negsuc, ◌-ℤ◌, ◌≤ℤ◌, List, Option, Some, None, Bool, false, ⊤}
 use Rattle.wm_numbers.specs.Within.{Within}
 use Rattle.wm_octagon.specs.Points.{side_value, IsPoint, IsTight, LeastOctagon}
 
@@ -26,6 +26,14 @@ LeastOf n (Some xs) P = LeastOctagon n P xs
 -- the octagon is the least that holds the points that P tells
 abbrev pub IsLeast : OctagonView → ((ℕ → ℤ) → Type 0) → Type 0
 IsLeast o P = LeastOf o.variables o.bounds P
+
+-- the octagon is empty, or it has a point and each of its bounds is attained by one
+abbrev pub TightBy : ℕ → Option (List ℤ) → Type 0
+TightBy n None = ⊤
+TightBy n (Some xs) = IsTight n xs
+
+abbrev pub IsTightView : OctagonView → Type 0
+IsTightView o = TightBy o.variables o.bounds
 
 -- a point of the octagon at which side l less side k is at most c
 pub record WithDifference (o : OctagonView) (k l : ℕ) (c : ℤ) (x : ℕ → ℤ) : Type 0 where

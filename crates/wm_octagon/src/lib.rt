@@ -9,6 +9,7 @@ mod half;
 mod layout;
 mod octagon;
 mod pairs;
+mod projecting;
 #[cfg(test)]
 mod tests;
 

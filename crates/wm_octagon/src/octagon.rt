@@ -11,6 +11,7 @@ use crate::assigning::Assigning;
 use crate::changes::Loosening;
 use crate::half::{Half, halved};
 use crate::layout::{MOST_SIDES, opposite, row_len};
+use crate::projecting::{Projecting, drawn_tops};
 use std::alloc::Global;
 use std::marker::Model;
 use wm_interval::Interval;
@@ -61,10 +62,11 @@ impl Model for Octagon {
 }
 
 impl Octagon {
-    ghost use Rattle.wm_octagon.specs.View.{Holds, IsLeast, WithDifference};
+    ghost use Rattle.wm_octagon.specs.View.{Holds, IsLeast, IsTightView, WithDifference};
     ghost use Rattle.wm_octagon.specs.Joining.{InEither};
     ghost use Rattle.wm_octagon.specs.Sides.{number_of, IsRangeOf, IsGreatestSum, WithSum, WithRange, FreedOf};
     ghost use Rattle.wm_octagon.specs.Assigning.{AssignedOf};
+    ghost use Rattle.wm_octagon.specs.Projecting.{ProjectedOf};
     ghost use Rattle.wm_numbers.specs.Within.{Within};
 
     /// Each variable has any number of its range. There are at most 32 ranges, whose ends have 32 bits. `NoMemory`: memory
@@ -82,6 +84,10 @@ impl Octagon {
     /// Whether it has no point.
     pub fn is_empty(&self) -> bool
         ensures value { IsTrue result ↔ (self.now.bounds ≡ None) }
+        ensures points { IsTrue result ↔ ((x : ℕ → ℤ) → Holds self.now x → ⊥) }
+
+        // while it has a point, one attains each bound
+        ensures tight { IsTightView self.now }
     {
         self.empty
     }
@@ -90,6 +96,7 @@ impl Octagon {
     pub fn range(&self, v: usize) -> Option<Interval>
         requires { v < self.now.variables }
         ensures none { MatchOption result (self.now.bounds ≡ None) (λ r. IsSome self.now.bounds) }
+        ensures points { MatchOption result ((x : ℕ → ℤ) → Holds self.now x → ⊥) (λ r. IsTightView self.now) }
         ensures ends { IfSome result (λ r. IsRangeOf self.now v r.low r.high) }
     {
         if self.empty {
@@ -106,6 +113,7 @@ impl Octagon {
         requires second { b.variable < self.now.variables }
         requires apart { a.variable ≢ b.variable }
         ensures none { MatchOption result (self.now.bounds ≡ None) (λ z. IsSome self.now.bounds) }
+        ensures points { MatchOption result ((x : ℕ → ℤ) → Holds self.now x → ⊥) (λ z. IsTightView self.now) }
         ensures greatest { IfSome result (λ z. IsGreatestSum self.now a b z) }
     {
         if self.empty {
@@ -261,6 +269,34 @@ impl Octagon {
             half,
             empty: self.empty,
         })
+    }
+
+    /// The octagon whose variable k is the variable `keep[k]` of this one, or any number of `ranges[k]` where that is None.
+    /// Both lists have one length of at most 32, and the ranges' ends have 32 bits. `NoMemory`: memory ran out.
+    pub fn project(
+        &self,
+        alloc: Global,
+        keep: &[Option<usize>],
+        ranges: &[Interval],
+    ) -> Result<Octagon, NoMemory>
+        requires few { length keep.now ≤ 32 }
+        requires long { length ranges.now ≡ length keep.now }
+        requires named { All (λ p. IfSome p (λ v. v < self.now.variables)) keep.now }
+        requires narrow { All IsNarrow ranges.now }
+        ensures variables { IfOk result (λ o. o.variables ≡ length keep.now) }
+        ensures least { IfOk result (λ o. IsLeast o (ProjectedOf self.now keep.now ranges.now)) }
+    {
+        let mut half = Half::new(alloc, ranges)?;
+        if self.empty {
+            return Ok(Octagon { half, empty: true });
+        }
+        let change = Projecting {
+            half: &self.half,
+            keep,
+            tops: drawn_tops(&self.half.tops(), keep, ranges),
+        };
+        half.change(&change);
+        Ok(Octagon { half, empty: false })
     }
 
     // the number of a side in the half table

@@ -5,7 +5,7 @@ use Rattle.wm_octagon.specs.Closing.{half_of, top}
 use Rattle.wm_octagon.specs.View.{OctagonView}
 use Rattle.wm_octagon.specs.Sides.{IsRangeOf}
 use Rattle.wm_octagon.proofs.Small.{small_read, half_small, neg-sub, small_negated, fits_negated}
-use Rattle.wm_octagon.proofs.Octagons.{range_is, opened, top-plus, top-minus, range_room}
+use Rattle.wm_octagon.proofs.Octagons.{range_is, opened, tight_view, top-plus, top-minus, range_room}
 use mir.Val.{SFits}
 use Rattle.wm_octagon.proofs.octagon.Octagon.range.Goals as goal
 
@@ -72,3 +72,6 @@ returns-clause-ends c =
     (subst (λ z. IsRangeOf (record { variables = n; bounds = Some xs }) c.args.v z c.new.result.high) (sym (minus_after c))
     (subst (λ z. IsRangeOf (record { variables = n; bounds = Some xs }) c.args.v (neg_ℤ (top (bound xs) (2 * c.args.v + 1))) z) (sym (plus_after c))
     (range_is n xs c.args.v (c.self.invariant.tight c.if-self.false) (subst (λ m. c.args.v < m) (sym same) c.requires))))
+
+pub returns-clause-points : goal.returns-clause-points
+returns-clause-points c = tight_view c.self.inside.half.variables c.self.inside.half.bounds c.self.inside.empty c.args.self.now c.self.invariant c.self.view_is
