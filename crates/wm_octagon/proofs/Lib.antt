@@ -1,6 +1,7 @@
 pub mod Assigns
 pub mod Attained
 pub mod Filled
+pub mod Fits
 pub mod Boxed
 pub mod Closings
 pub mod Joins

@@ -10,8 +10,6 @@ mod layout;
 mod octagon;
 mod pairs;
 mod projecting;
-#[cfg(test)]
-mod tests;
 
 pub use half::Half;
 pub use octagon::{Octagon, Side};

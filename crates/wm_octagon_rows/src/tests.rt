@@ -1,8 +1,8 @@
 //! A half table and octagons of two variables, worked by hand.
 
-use crate::{Half, Octagon, Side};
 use std::test::Fail;
 use wm_interval::Interval;
+use wm_octagon::{Half, Octagon, Side};
 
 #[test]
 fn two_ranges_and_an_order(rt: HostRuntime) -> Result<(), Fail> {
