@@ -1,8 +1,13 @@
 //! A half table and octagons of two variables, worked by hand.
 
+ghost use Rattle.std.specs.Prelude.{◌≡◌, IfOk};
+ghost use Rattle.wm_numbers.specs.Within.{IsWord32};
+
+use std::alloc::Global;
 use std::test::Fail;
 use wm_interval::Interval;
 use wm_octagon::{Half, Octagon, Side};
+use wm_ops::NoMemory;
 
 #[test]
 fn two_ranges_and_an_order(rt: HostRuntime) -> Result<(), Fail> {
@@ -38,6 +43,11 @@ const MINUS_W: Side = Side {
     negative: true,
 };
 
+const THIRD: Side = Side {
+    variable: 2,
+    negative: false,
+};
+
 #[test]
 fn an_order_and_a_sum(rt: HostRuntime) -> Result<(), Fail> {
     let ten = Interval::new(0, 10);
@@ -68,42 +78,64 @@ fn half_of_five_is_no_point(rt: HostRuntime) -> Result<(), Fail> {
     Ok(())
 }
 
-#[test]
-fn a_copy_and_a_projection(rt: HostRuntime) -> Result<(), Fail> {
+// the variables v and w from 0 to 10, with v at most w and their sum at most 9
+fn ordered(alloc: Global) -> Result<Octagon, NoMemory>
+    ensures { IfOk result (λ o. o.variables ≡ 2) }
+{
     let ten = Interval::new(0, 10);
     let ranges = [ten, ten];
-    let mut octagon = Octagon::new(rt.alloc(), &ranges)?;
+    let mut octagon = Octagon::new(alloc, &ranges)?;
     octagon.add_bound(V, MINUS_W, 0);
     octagon.add_bound(V, W, 9);
+    Ok(octagon)
+}
+
+#[test]
+fn a_copy(rt: HostRuntime) -> Result<(), Fail> {
+    let octagon = ordered(rt.alloc())?;
     let copy = octagon.copy(rt.alloc())?;
     assert_eq!(rt; copy.range(0), Some(Interval::new(0, 4)));
     assert_eq!(rt; copy.bound(W, MINUS_V), Some(9));
-    let unused = [ten];
+    Ok(())
+}
+
+#[test]
+fn projected_to_one(rt: HostRuntime) -> Result<(), Fail> {
+    let octagon = ordered(rt.alloc())?;
+    let unused = [Interval::new(0, 10)];
     let one = octagon.project(rt.alloc(), &[Some(1)], &unused)?;
     assert_eq!(rt; one.range(0), Some(Interval::new(0, 9)));
-    // the two change places, and a third one has any number from 2 to 3
-    let free = [ten, Interval::new(2, 3), ten];
-    let three = octagon.project(rt.alloc(), &[Some(1), None, Some(0)], &free)?;
-    let third = Side {
-        variable: 2,
-        negative: false,
-    };
-    let minus_third = Side {
-        variable: 2,
-        negative: true,
-    };
-    assert_eq!(rt; three.range(0), Some(Interval::new(0, 9)));
+    Ok(())
+}
+
+// w, a number from 2 to 3, and v
+fn w_free_v(alloc: Global) -> Result<Octagon, NoMemory>
+    ensures { IfOk result (λ o. o.variables ≡ 3) }
+{
+    let octagon = ordered(alloc)?;
+    let ten = Interval::new(0, 10);
+    let ranges = [ten, Interval::new(2, 3), ten];
+    octagon.project(alloc, &[Some(1), None, Some(0)], &ranges)
+}
+
+#[test]
+fn projected_to_three(rt: HostRuntime) -> Result<(), Fail> {
+    let three = w_free_v(rt.alloc())?;
     assert_eq!(rt; three.range(1), Some(Interval::new(2, 3)));
-    assert_eq!(rt; three.range(2), Some(Interval::new(0, 4)));
-    assert_eq!(rt; three.bound(third, MINUS_V), Some(0));
-    assert_eq!(rt; three.bound(third, V), Some(9));
-    assert_eq!(rt; three.bound(W, minus_third), Some(3));
-    assert_eq!(rt; three.bound(W, V), Some(12));
+    assert_eq!(rt; three.bound(THIRD, MINUS_V), Some(0));
+    assert_eq!(rt; three.bound(THIRD, V), Some(9));
+    assert_eq!(rt; three.bound(W, MINUS_V), Some(3));
+    Ok(())
+}
+
+#[test]
+fn nothing_projected(rt: HostRuntime) -> Result<(), Fail> {
+    let mut octagon = ordered(rt.alloc())?;
     octagon.add_bound(V, W, -1);
-    let none = octagon.project(rt.alloc(), &[Some(1), None, Some(0)], &free)?;
+    let unused = [Interval::new(0, 10)];
+    let none = octagon.project(rt.alloc(), &[Some(1)], &unused)?;
     assert!(rt; none.is_empty());
-    assert_eq!(rt; none.range(1), None);
-    assert_eq!(rt; none.bound(V, W), None);
+    assert_eq!(rt; none.range(0), None);
     Ok(())
 }
 
@@ -120,20 +152,34 @@ fn neighbours_in_an_order(rt: HostRuntime) -> Result<(), Fail> {
     Ok(())
 }
 
+// v and w have the number
+fn at(alloc: Global, number: i64) -> Result<Octagon, NoMemory>
+    requires { IsWord32 number }
+    ensures { IfOk result (λ o. o.variables ≡ 2) }
+{
+    let point = Interval::new(number, number);
+    let ranges = [point, point];
+    Octagon::new(alloc, &ranges)
+}
+
 #[test]
 fn two_points_joined(rt: HostRuntime) -> Result<(), Fail> {
-    let zero = Interval::new(0, 0);
-    let five = Interval::new(5, 5);
-    let zeros = [zero, zero];
-    let fives = [five, five];
-    let mut joined = Octagon::new(rt.alloc(), &zeros)?;
-    let other = Octagon::new(rt.alloc(), &fives)?;
-    assert!(rt; !other.within(&joined));
+    let mut joined = at(rt.alloc(), 0)?;
+    let other = at(rt.alloc(), 5)?;
     joined.join_with(&other);
-    assert!(rt; other.within(&joined));
     assert_eq!(rt; joined.range(0), Some(Interval::new(0, 5)));
     assert_eq!(rt; joined.range(1), Some(Interval::new(0, 5)));
     assert_eq!(rt; joined.bound(V, MINUS_W), Some(0));
     assert_eq!(rt; joined.bound(W, MINUS_V), Some(0));
+    Ok(())
+}
+
+#[test]
+fn a_point_within_a_join(rt: HostRuntime) -> Result<(), Fail> {
+    let mut joined = at(rt.alloc(), 0)?;
+    let other = at(rt.alloc(), 5)?;
+    assert!(rt; !other.within(&joined));
+    joined.join_with(&other);
+    assert!(rt; other.within(&joined));
     Ok(())
 }
