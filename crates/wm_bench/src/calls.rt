@@ -1,13 +1,19 @@
 //! The calls that are timed, and the checksum of a pass over what was drawn for them.
 
 use crate::boxes::{BOXES, Drawn};
+use crate::octagons::{self, BOUNDS};
+use std::alloc::Global;
 use wm_hull::{hull, worst};
+use wm_ops::NoMemory;
 
 /// A call, and what was drawn for it.
 #[derive(Clone, Copy)]
 pub(crate) enum Call<'d> {
     Hull(&'d [Drawn]),
     Worst(&'d [Drawn]),
+    AddBound(&'d octagons::Drawn),
+    CopyAndJoin(&'d octagons::Drawn),
+    WithinItself(&'d octagons::Drawn),
 }
 
 impl<'d> Call<'d> {
@@ -16,14 +22,21 @@ impl<'d> Call<'d> {
         match self {
             Call::Hull(_) => BOXES,
             Call::Worst(_) => BOXES,
+            Call::AddBound(_) => BOUNDS,
+            Call::CopyAndJoin(_) => 1,
+            Call::WithinItself(_) => 1,
         }
     }
 
-    /// The checksum of one pass: the sum modulo 2^64 of what the call gives on each of the boxes.
-    pub(crate) fn pass(self) -> i64 {
+    /// The checksum of one pass: for boxes the sum modulo 2^64 of what the call gives on each, for octagons the bound that is
+    /// left to the first drawn sum, or whether the one lies within the other.
+    pub(crate) fn pass(self, alloc: Global) -> Result<i64, NoMemory> {
         match self {
-            Call::Hull(all) => sum_of_hulls(all),
-            Call::Worst(all) => sum_of_worsts(all),
+            Call::Hull(all) => Ok(sum_of_hulls(all)),
+            Call::Worst(all) => Ok(sum_of_worsts(all)),
+            Call::AddBound(drawn) => drawn.add_bounds(alloc),
+            Call::CopyAndJoin(drawn) => drawn.copy_and_join(alloc),
+            Call::WithinItself(drawn) => Ok(drawn.within_itself()),
         }
     }
 }

@@ -1,18 +1,22 @@
-//! The calls that other programs are set beside, on boxes of a fixed generator. With the word `checksums` it
+//! The calls that other programs are set beside, on boxes and octagons of a fixed generator. With the word `checksums` it
 //! prints a line `NAME CHECKSUM` for each call, with `speed` a line `NAME CALLS_PER_SECOND CHECKSUM`.
 #![tactic(auto)]
+
+ghost use Rattle.std.specs.Prelude.{◌<◌, ◌≤◌};
 
 mod boxes;
 mod calls;
 mod draws;
+mod octagons;
 mod timing;
 
 use boxes::boxes_of;
 use calls::Call;
+use octagons::Drawn;
 use std::alloc::Global;
 use std::rt::{Clock, Env};
 use std::{env, io};
-use timing::{Pace, pace_of};
+use timing::{Pace, checksum_of, pace_of};
 use wm_ops::{OPERATORS, Op, name, op_at};
 
 /// What is printed of each call.
@@ -32,10 +36,15 @@ fn asked_mode<R: Env + Alloc<A = Global>>(rt: &R) -> io::Result<Mode> {
     }
 }
 
-fn print_call<R: Print + Clock>(rt: &R, mode: Mode, name: &str, call: Call) -> io::Result<()> {
+fn print_call<R: Print + Clock + Alloc<A = Global>>(
+    rt: &R,
+    mode: Mode,
+    name: &str,
+    call: Call,
+) -> io::Result<()> {
     match mode {
         Mode::Checksums => {
-            let checksum = call.pass();
+            let checksum = checksum_of(rt.alloc(), call)?;
             println!(rt; "{name} {checksum}")
         }
         Mode::Speed => {
@@ -61,6 +70,26 @@ fn print_operator<R: Print + Clock + Alloc<A = Global>>(
     print_call(rt, mode, worst.as_str(), Call::Worst(boxes.as_slice()))
 }
 
+fn print_octagon<R: Print + Clock + Alloc<A = Global>>(
+    rt: &R,
+    mode: Mode,
+    variables: usize,
+) -> io::Result<()>
+    requires many { 1 < variables }
+    requires few { variables ≤ 32 }
+{
+    let drawn = match Drawn::new(rt.alloc(), variables) {
+        Ok(drawn) => drawn,
+        Err(_) => return Err(io::Error::from(io::ErrorKind::OutOfMemory)),
+    };
+    let add = format!(in rt.alloc(); "octagon {variables} add_bound")?;
+    print_call(rt, mode, add.as_str(), Call::AddBound(&drawn))?;
+    let join = format!(in rt.alloc(); "octagon {variables} copy+join_with")?;
+    print_call(rt, mode, join.as_str(), Call::CopyAndJoin(&drawn))?;
+    let within = format!(in rt.alloc(); "octagon {variables} within itself")?;
+    print_call(rt, mode, within.as_str(), Call::WithinItself(&drawn))
+}
+
 fn main(rt: HostRuntime) -> io::Result<()> {
     let mode = asked_mode(&rt)?;
     for number in 0..OPERATORS {
@@ -68,5 +97,8 @@ fn main(rt: HostRuntime) -> io::Result<()> {
             print_operator(&rt, mode, op)?;
         }
     }
-    Ok(())
+    print_octagon(&rt, mode, 8)?;
+    print_octagon(&rt, mode, 16)?;
+    print_octagon(&rt, mode, 28)?;
+    print_octagon(&rt, mode, 32)
 }

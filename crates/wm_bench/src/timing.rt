@@ -1,6 +1,7 @@
 //! How many calls are made in a second.
 
 use crate::calls::Call;
+use std::alloc::Global;
 use std::io;
 use std::rt::Clock;
 use std::time::Instant;
@@ -18,12 +19,12 @@ pub(crate) struct Pace {
 }
 
 /// Passes for a tenth of a second.
-pub(crate) fn pace_of<R: Clock>(rt: &R, call: Call) -> io::Result<Pace> {
+pub(crate) fn pace_of<R: Clock + Alloc<A = Global>>(rt: &R, call: Call) -> io::Result<Pace> {
     let start = Instant::now(rt)?;
     let mut sum: i64 = 0;
     let mut passes: u32 = 0;
     for pass in 0..MOST_PASSES {
-        sum = sum.wrapping_add(call.pass());
+        sum = sum.wrapping_add(checksum_of(rt.alloc(), call)?);
         passes = pass + 1;
         if start.elapsed(rt)?.as_millis() >= MILLISECONDS {
             break;
@@ -34,6 +35,14 @@ pub(crate) fn pace_of<R: Clock>(rt: &R, call: Call) -> io::Result<Pace> {
         calls_per_second: f64::from(passes) * f64::from(call.times()) / seconds,
         checksum: of_one(sum, passes),
     })
+}
+
+/// The checksum of one pass.
+pub(crate) fn checksum_of(alloc: Global, call: Call) -> io::Result<i64> {
+    match call.pass(alloc) {
+        Ok(checksum) => Ok(checksum),
+        Err(_) => Err(io::Error::from(io::ErrorKind::OutOfMemory)),
+    }
 }
 
 // The checksum of one of several equal passes, whose sum this is.

@@ -1,6 +1,7 @@
 -- The arrays of a closing give the table with one more bound, and its numbers stay small.
-use Rattle.std.proofs.Common.{◌≡◌, ℕ, ◌*◌, ◌<◌, ℤ, pos, ◌+ℤ◌, ◌≤ℤ◌, List, sym, subst, ◌∙◌, ap, arith}
-use Rattle.std.proofs.lemmas.Int.{ints}
+use Rattle.std.proofs.Common.{◌≡◌, ℕ, ◌*◌, ◌<◌, ℤ, pos, ◌+ℤ◌, ◌≤ℤ◌, List, sym, subst, ◌∙◌, ap, arith, to_z, of_z, w64}
+use Rattle.std.proofs.lemmas.Int.{ints, to_z-of_z}
+use mir.Val.{SFits}
 use Rattle.std.specs.Int.{int_min}
 use Rattle.wm_octagon.specs.Layout.{opposite, row_len, place, entry, bound, table}
 use Rattle.wm_octagon.specs.Closing.{half_of, top, through, with_bound, joined, closed}
@@ -84,3 +85,30 @@ ways-given n near far f g a a' c c' s xs hf hg ea ec es t =
     (subst (λ z. Filled IsMedium (through (at near) (at far) a' z) (2 * n) xs) ec
     (subst (λ z. Filled IsMedium (through (at near) (at far) z c) (2 * n) xs) ea
     (subst (λ z. Filled IsMedium (through (at near) (at far) a c) z xs) es t)))
+
+-- ---- the five arrays that are filled for one more bound
+
+pub record Ready (n : ℕ) (xs : List ℤ) (i j : ℕ) (c : ℤ) (from_j from_i to_j to_i tops : List ℤ) : Type 0 where
+  pub rows : AreRows n xs i j from_j from_i
+  pub ways : AreWays n xs i j c to_j to_i
+  pub greatest : Filled IsMedium (top (with_bound (bound xs) i j c)) (2 * n) tops
+
+pub ready : (n : ℕ) (xs : List ℤ) (i j : ℕ) (c : ℤ) (from_j from_i to_j to_i tops : List ℤ) (o : ℕ) (round back c' : ℤ) (s : ℕ) → o ≡ opposite i
+    → Filled IsSmall (bound xs j) (2 * n) from_j → Filled IsSmall (bound xs o) (2 * n) from_i
+    → round ≡ c +ℤ c +ℤ bound xs (opposite i) i → back ≡ c +ℤ c +ℤ bound xs j (opposite j) → c' ≡ c → s ≡ 2 * n
+    → Filled IsMedium (through (at from_i) (at from_j) round c') s to_j → Filled IsMedium (through (at from_j) (at from_i) back c') s to_i
+    → Filled IsMedium (λ k. half_of (least_way to_j from_j to_i from_i (bound xs (opposite k) k) (opposite k) k)) (2 * n) tops
+    → Ready n xs i j c from_j from_i to_j to_i tops
+ready n xs i j c from_j from_i to_j to_i tops o round back c' s eo fj fi er eb ec es wj wi t =
+    let i_row = subst (λ k. Filled IsSmall (bound xs k) (2 * n) from_i) eo fi in
+    let r : AreRows n xs i j from_j from_i = record { j_row = fj; i_row = i_row } in
+    let w : AreWays n xs i j c to_j to_i = record {
+      j_ways = ways-given n from_i from_j (bound xs (opposite i)) (bound xs j) _ _ _ _ s to_j i_row.done fj.done er ec es wj;
+      i_ways = ways-given n from_j from_i (bound xs j) (bound xs (opposite i)) _ _ _ _ s to_i fj.done i_row.done eb ec es wi;
+    } in
+    record { rows = r; ways = w; greatest = tops-are n xs i j c to_j from_j to_i from_i tops r w t }
+
+pub round_is : (r c b x : ℤ) → SFits w64 c → SFits w64 b → SFits w64 r → r ≡ to_z w64 (of_z w64 c) +ℤ to_z w64 (of_z w64 c) +ℤ to_z w64 (of_z w64 b) → b ≡ x → to_z w64 (of_z w64 r) ≡ c +ℤ c +ℤ x
+round_is r c b x fc fb fr e h =
+    let plain : r ≡ c +ℤ c +ℤ b = simp to_z-of_z at e in
+    to_z-of_z w64 r fr ∙ plain ∙ ap (λ z. c +ℤ c +ℤ z) h

@@ -23,6 +23,9 @@ filled-none P f n z = record {
   ];
 }
 
+pub filled-clear : (P : ℤ → Type 0) (f : ℕ → ℤ) (xs : List ℤ) → xs ≡ replicate 64 (pos 0) → P (pos 0) → Filled P f 0 xs
+filled-clear P f xs e z = subst (λ ys. Filled P f 0 ys) (sym e) (filled-none P f 64 z)
+
 pub filled-more : (P : ℤ → Type 0) (f : ℕ → ℤ) (n : ℕ) (xs : List ℤ) (v : ℤ) → Filled P f n xs → n < length xs → v ≡ f n → P (f n) → Filled P f (n + 1) (set xs n v)
 filled-more P f n xs v t h e p = record {
   done = below_more _ _

@@ -7,7 +7,7 @@ use Rattle.wm_interval.specs.declared.Interval.{Interval}
 use Rattle.wm_numbers.specs.Within.{Within}
 use Rattle.wm_octagon.specs.Layout.{opposite, row_len, table}
 use Rattle.wm_octagon.specs.HalfTable.{HalfTable, IsSmall}
-use Rattle.wm_octagon.specs.Points.{side_value, LeastOctagon}
+use Rattle.wm_octagon.specs.Points.{side_value, IsPoint, LeastOctagon}
 use Rattle.wm_octagon.specs.Changes.{apart}
 use Rattle.wm_octagon.specs.Ranges.{IsNarrow, low_of, high_of, range_top, InRanges, box_table}
 use Rattle.wm_octagon.proofs.Rows.{entry-table}
@@ -17,7 +17,7 @@ use Rattle.wm_octagon.specs.Medium.{Filled}
 use Rattle.wm_octagon.specs.Ways.{at}
 use Rattle.wm_octagon.proofs.Closings.{table-ext}
 use Rattle.wm_octagon.proofs.Tight.{column-lt}
-use Rattle.wm_octagon.proofs.Moves.{moved, moved-here, moved-there, even_or_odd}
+use Rattle.wm_octagon.proofs.Moves.{side_plus, side_minus, moved, moved-here, moved-there, even_or_odd}
 
 ordered : (rs : List Interval) (v : ℕ) → v < length rs → low_of rs v ≤ℤ high_of rs v
 ordered [] v h = absurd (omega arith)
@@ -171,6 +171,27 @@ box-least rs = record {
                   omega (arith, ints);
             })
       ];
+}
+
+-- its points are those of the ranges
+pub box-points : (rs : List Interval) (x : ℕ → ℤ) → IsPoint (length rs) (table (2 * length rs) (apart (range_top rs))) x → InRanges rs x
+box-points rs x p = record {
+  inside = λ v h.
+      let up = p.meets (2 * v + 1) (2 * v) (omega arith) (omega arith) in
+      let down = p.meets (2 * v) (2 * v + 1) (omega arith) (omega arith) in
+      let eu = entry-table (2 * length rs) (apart (range_top rs)) (2 * v + 1) (2 * v) (omega arith) (omega arith) in
+      let ed = entry-table (2 * length rs) (apart (range_top rs)) (2 * v) (2 * v + 1) (omega arith) (omega arith) in
+      let au = apart-other (range_top rs) (2 * v + 1) (2 * v) (omega arith) in
+      let ad = apart-other (range_top rs) (2 * v) (2 * v + 1) (omega arith) in
+      let ou : opposite (2 * v + 1) ≡ 2 * v = omega arith in
+      let od : opposite (2 * v) ≡ 2 * v + 1 = omega arith in
+      let tu = ap (range_top rs) ou in
+      let td = ap (range_top rs) od in
+      let hp = range_top-plus rs v in
+      let hm = range_top-minus rs v in
+      let sp = side_plus x v in
+      let sm = side_minus x v in
+      record { above = omega (arith, ints); below = omega (arith, ints) };
 }
 
 -- ---- the list that the code builds

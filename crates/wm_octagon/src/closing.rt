@@ -1,12 +1,12 @@
 //! One more bound in a half table, brought up to date in a single pass over the list.
 
-ghost use Rattle.std.specs.Prelude.{◌≡◌, ℕ, ◌*◌, ◌%◌, ◌<◌, ◌≤◌, ℤ, ◌+ℤ◌};
+ghost use Rattle.std.specs.Prelude.{◌≡◌, ℕ, ◌*◌, ◌%◌, ◌<◌, ◌≤◌, ℤ, pos, ◌+ℤ◌, replicate};
 ghost use Rattle.std.specs.Int.{int_min};
-ghost use Rattle.wm_octagon.specs.Layout.{opposite, bound};
-ghost use Rattle.wm_octagon.specs.Closing.{half_of, top, through, with_bound};
+ghost use Rattle.wm_octagon.specs.Layout.{opposite, row_len, bound, table};
+ghost use Rattle.wm_octagon.specs.Closing.{half_of, through, closed};
 ghost use Rattle.wm_octagon.specs.HalfTable.{IsSmall};
 ghost use Rattle.wm_octagon.specs.Medium.{IsMedium, IsRound, Filled};
-ghost use Rattle.wm_octagon.specs.Ways.{at, AreRows, AreWays, AreSized, least_way};
+ghost use Rattle.wm_octagon.specs.Ways.{at, AreSized, least_way};
 
 use crate::half::{Half, halved};
 use crate::layout::{Change, MOST_SIDES, opposite};
@@ -14,19 +14,19 @@ use crate::layout::{Change, MOST_SIDES, opposite};
 /// What one more bound of side `j` less side `i` needs to change each bound: the rows of `j` and of `-i`, the ways from
 /// each side that end with the new bound in `j` or in `-i`, and the greatest value that is left to each side.
 #[derive(Drop)]
-pub(crate) struct Closing {
-    from_j: [i64; MOST_SIDES],
-    from_i: [i64; MOST_SIDES],
-    to_j: [i64; MOST_SIDES],
-    to_i: [i64; MOST_SIDES],
-    tops: [i64; MOST_SIDES],
-    ghost sized: { AreSized from_j from_i to_j to_i tops },
+struct Closing<'c> {
+    from_j: &'c [i64; MOST_SIDES],
+    from_i: &'c [i64; MOST_SIDES],
+    to_j: &'c [i64; MOST_SIDES],
+    to_i: &'c [i64; MOST_SIDES],
+    tops: &'c [i64; MOST_SIDES],
+    ghost sized: { AreSized from_j.now from_i.now to_j.now to_i.now tops.now },
 }
 
-impl Change for Closing {
+impl Change for Closing<'_> {
     ghost sides = { λ _. 64 };
 
-    ghost value = { λ s k l b. int_min (least_way s.to_j s.from_j s.to_i s.from_i b k l) (at s.tops (opposite k) +ℤ at s.tops l) };
+    ghost value = { λ s k l b. int_min (least_way s.to_j.now s.from_j.now s.to_i.now s.from_i.now b k l) (at s.tops.now (opposite k) +ℤ at s.tops.now l) };
 
     #[inline(always)]
     fn changed(&self, k: usize, l: usize, bound: i64) -> i64 {
@@ -37,43 +37,36 @@ impl Change for Closing {
     }
 }
 
-impl Closing {
-    /// What the bound 'side `j` less side `i` is at most `c`' changes in `half`.
-    #[inline(always)]
-    pub(crate) fn new(half: &Half, i: usize, j: usize, c: i64) -> Closing
-        requires row { i < 2 * half.now.variables }
-        requires column { j < 2 * half.now.variables }
-        requires c { IsSmall c }
-        ensures rows { AreRows half.now.variables half.now.bounds i j result.from_j result.from_i }
-        ensures ways { AreWays half.now.variables half.now.bounds i j c result.to_j result.to_i }
-        ensures tops { Filled IsMedium (top (with_bound (bound half.now.bounds) i j c)) (2 * half.now.variables) result.tops }
-    {
-        let sides = half.sides();
-        let from_j = half.row(j);
-        let from_i = half.row(opposite(i));
-        let to_j = ways(
-            &from_i,
-            &from_j,
-            c,
-            round_trip(c, half.bound(opposite(i), i)),
-            sides,
-        );
-        let to_i = ways(
-            &from_j,
-            &from_i,
-            c,
-            round_trip(c, half.bound(j, opposite(j))),
-            sides,
-        );
-        let tops = new_tops(half, &to_j, &from_j, &to_i, &from_i);
-        Closing {
-            from_j,
-            from_i,
-            to_j,
-            to_i,
-            tops,
-        }
-    }
+/// Takes the bound 'side `j` less side `i` is at most `c`' into all bounds.
+#[inline(always)]
+pub(crate) fn take_in(half: &mut Half, i: usize, j: usize, c: i64)
+    requires row { i < 2 * half.old.variables }
+    requires column { j < 2 * half.old.variables }
+    requires c { IsSmall c }
+    requires sized { (k l : ℕ) → k < 2 * half.old.variables → l < row_len k → IsSmall (closed (bound half.old.bounds) i j c k l) }
+    ensures list { half.new ≡ record half.old { bounds = table (2 * half.old.variables) (closed (bound half.old.bounds) i j c) } }
+{
+    let mut from_j = [0; MOST_SIDES];
+    let mut from_i = [0; MOST_SIDES];
+    let mut to_j = [0; MOST_SIDES];
+    let mut to_i = [0; MOST_SIDES];
+    let mut tops = [0; MOST_SIDES];
+    let sides = half.sides();
+    half.fill_row(j, &mut from_j);
+    half.fill_row(opposite(i), &mut from_i);
+    let around_j = round_trip(c, half.bound(opposite(i), i));
+    let around_i = round_trip(c, half.bound(j, opposite(j)));
+    fill_ways(&from_i, &from_j, c, around_j, sides, &mut to_j);
+    fill_ways(&from_j, &from_i, c, around_i, sides, &mut to_i);
+    fill_tops(half, &to_j, &from_j, &to_i, &from_i, &mut tops);
+    let closing = Closing {
+        from_j: &from_j,
+        from_i: &from_i,
+        to_j: &to_j,
+        to_i: &to_i,
+        tops: &tops,
+    };
+    half.change(&closing);
 }
 
 #[inline(always)]
@@ -135,27 +128,27 @@ fn way(near: i64, far: i64, c: i64, around: i64) -> i64
 
 /// The bounds of one side less each other by way of the new bound `c`: once, or after a way round that costs `around`.
 #[inline(always)]
-fn ways(
+fn fill_ways(
     near: &[i64; MOST_SIDES],
     far: &[i64; MOST_SIDES],
     c: i64,
     around: i64,
     sides: usize,
-) -> [i64; MOST_SIDES]
+    ways: &mut [i64; MOST_SIDES],
+)
     requires few { sides ≤ 64 }
     requires even { sides % 2 ≡ 0 }
     requires near { (k : ℕ) → IsSmall (at near.now k) }
     requires far { (k : ℕ) → IsSmall (at far.now k) }
     requires c { IsSmall c }
     requires around { IsRound around }
-    ensures value { Filled IsMedium (through (at near.now) (at far.now) around c) sides result }
+    requires clear { ways.old ≡ replicate 64 (pos 0) }
+    ensures value { Filled IsMedium (through (at near.now) (at far.now) around c) sides ways.new }
 {
-    let mut ways = [0; MOST_SIDES];
     for k in 0..sides {
         let other = opposite(k);
         ways[k] = way(near[other], far[other], c, around);
     }
-    ways
 }
 
 // half of the least of an old bound and two ways, rounded down
@@ -174,25 +167,25 @@ fn half_least(bound: i64, to_j: i64, from_j: i64, to_i: i64, from_i: i64) -> i64
 
 /// The greatest value that the old bounds and the ways by the new one leave each side.
 #[inline(always)]
-fn new_tops(
+fn fill_tops(
     half: &Half,
     to_j: &[i64; MOST_SIDES],
     from_j: &[i64; MOST_SIDES],
     to_i: &[i64; MOST_SIDES],
     from_i: &[i64; MOST_SIDES],
-) -> [i64; MOST_SIDES]
+    tops: &mut [i64; MOST_SIDES],
+)
     requires to_j { (k : ℕ) → IsMedium (at to_j.now k) }
     requires from_j { (k : ℕ) → IsSmall (at from_j.now k) }
     requires to_i { (k : ℕ) → IsMedium (at to_i.now k) }
     requires from_i { (k : ℕ) → IsSmall (at from_i.now k) }
-    ensures value { Filled IsMedium (λ k. half_of (least_way to_j.now from_j.now to_i.now from_i.now (bound half.now.bounds (opposite k) k) (opposite k) k)) (2 * half.now.variables) result }
+    requires clear { tops.old ≡ replicate 64 (pos 0) }
+    ensures value { Filled IsMedium (λ k. half_of (least_way to_j.now from_j.now to_i.now from_i.now (bound half.now.bounds (opposite k) k) (opposite k) k)) (2 * half.now.variables) tops.new }
 {
     let sides = half.sides();
-    let mut tops = [0; MOST_SIDES];
     for k in 0..sides {
         let other = opposite(k);
         let old = half.bound(other, k);
         tops[k] = half_least(old, to_j[other], from_j[k], to_i[other], from_i[k]);
     }
-    tops
 }

@@ -1,6 +1,6 @@
 //! The half table: the bounds between the sides of some variables, one of each pair that says the same.
 
-ghost use Rattle.std.specs.Prelude.{◌≡◌, ◌≢◌, ◌↔◌, ℕ, ◌+◌, ◌*◌, ◌^◌, ◌<◌, ◌≤◌, ℤ, pos, ◌+ℤ◌, ◌≤ℤ◌, unsigned_abs, IsTrue, IfOk, All, length};
+ghost use Rattle.std.specs.Prelude.{◌≡◌, ◌≢◌, ◌↔◌, ℕ, ◌+◌, ◌*◌, ◌^◌, ◌<◌, ◌≤◌, ℤ, pos, ◌+ℤ◌, ◌≤ℤ◌, unsigned_abs, IsTrue, IfOk, All, length, replicate};
 ghost use Rattle.std.specs.Bool.{MatchBool, OnTrue};
 ghost use Rattle.wm_octagon.specs.Layout.{opposite, row_len, entry, bound, table};
 ghost use Rattle.wm_octagon.specs.Closing.{half_of, top, list_with};
@@ -11,7 +11,7 @@ ghost use Rattle.wm_octagon.specs.Medium.{Filled};
 ghost use Rattle.wm_octagon.specs.Ranges.{IsNarrow, InRanges, range_top, box_table};
 
 use crate::changes::Boxing;
-use crate::closing::{Closing, plus};
+use crate::closing::{plus, take_in};
 use crate::layout::{Change, MOST_SIDES, change_all, opposite, place, row_start};
 use crate::pairs::{all_below, raise_all};
 use std::alloc::Global;
@@ -46,6 +46,7 @@ impl Half {
         requires narrow { All IsNarrow ranges.now }
         ensures list { IfOk result (λ h. h ≡ box_table ranges.now) }
         ensures least { IfOk result (λ h. LeastOctagon h.variables (InRanges ranges.now) h.bounds) }
+        ensures points { IfOk result (λ h. (x : ℕ → ℤ) → IsPoint h.variables h.bounds x ↔ InRanges ranges.now x) }
         ensures tight { IfOk result (λ h. IsTight h.variables h.bounds) }
     {
         let change = Boxing {
@@ -143,12 +144,22 @@ impl Half {
         requires { k < 2 * self.now.variables }
         ensures value { Filled IsSmall (bound self.now.bounds k) (2 * self.now.variables) result }
     {
-        let sides = self.sides();
         let mut row = [0; MOST_SIDES];
+        self.fill_row(k, &mut row);
+        row
+    }
+
+    /// Puts the bounds of all sides less side `k` into a row of zeros.
+    #[inline(always)]
+    pub(crate) fn fill_row(&self, k: usize, row: &mut [i64; MOST_SIDES])
+        requires inside { k < 2 * self.now.variables }
+        requires clear { row.old ≡ replicate 64 (pos 0) }
+        ensures value { Filled IsSmall (bound self.now.bounds k) (2 * self.now.variables) row.new }
+    {
+        let sides = self.sides();
         for l in 0..sides {
             row[l] = self.bound(k, l);
         }
-        row
     }
 
     /// The greatest whole value that its own bound leaves each side.
@@ -197,8 +208,7 @@ impl Half {
             return false;
         }
         if c < self.bound(i, j) {
-            let closing = Closing::new(self, i, j, c);
-            self.change(&closing);
+            take_in(self, i, j, c);
         }
         true
     }

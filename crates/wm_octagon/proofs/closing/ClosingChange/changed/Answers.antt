@@ -21,12 +21,12 @@ returns c =
     let f3 : SFits w64 c.sum-alone.result = record { sfits = c.sum-alone.type_inv } in
     let f4 : SFits w64 c.least.result = record { sfits = c.least.type_inv } in
     let f5 : SFits w64 c.lesser.result = record { sfits = c.lesser.type_inv } in
-    let e1 : c.sum-by_j.result ≡ at c.args.self.now.to_j c.args.k +ℤ at c.args.self.now.from_j c.args.l = simp to_z-of_z at c.sum-by_j.ensures in
-    let e2 : c.sum-by_i.result ≡ at c.args.self.now.to_i c.args.k +ℤ at c.args.self.now.from_i c.args.l = simp to_z-of_z at c.sum-by_i.ensures in
-    let e3 : c.sum-alone.result ≡ at c.args.self.now.tops c.opposite.result +ℤ at c.args.self.now.tops c.args.l = simp to_z-of_z at c.sum-alone.ensures in
+    let e1 : c.sum-by_j.result ≡ at c.args.self.now.to_j.now c.args.k +ℤ at c.args.self.now.from_j.now c.args.l = simp to_z-of_z at c.sum-by_j.ensures in
+    let e2 : c.sum-by_i.result ≡ at c.args.self.now.to_i.now c.args.k +ℤ at c.args.self.now.from_i.now c.args.l = simp to_z-of_z at c.sum-by_i.ensures in
+    let e3 : c.sum-alone.result ≡ at c.args.self.now.tops.now c.opposite.result +ℤ at c.args.self.now.tops.now c.args.l = simp to_z-of_z at c.sum-alone.ensures in
     let e4 : c.least.result ≡ int_min c.args.bound (int_min c.sum-by_j.result c.sum-by_i.result) = simp to_z-of_z at c.least.ensures in
     let e5 : c.lesser.result ≡ int_min c.least.result c.sum-alone.result = simp to_z-of_z at c.lesser.ensures in
-    let o = ap (at c.args.self.now.tops) c.opposite.ensures in
+    let o = ap (at c.args.self.now.tops.now) c.opposite.ensures in
     to_z-of_z w64 c.lesser.result f5 ∙ e5
-    ∙ ap (λ z. int_min z c.sum-alone.result) (e4 ∙ ap (λ z. int_min c.args.bound (int_min z c.sum-by_i.result)) e1 ∙ ap (λ z. int_min c.args.bound (int_min (at c.args.self.now.to_j c.args.k +ℤ at c.args.self.now.from_j c.args.l) z)) e2)
-    ∙ ap (λ z. int_min (least_way c.args.self.now.to_j c.args.self.now.from_j c.args.self.now.to_i c.args.self.now.from_i c.args.bound c.args.k c.args.l) z) (e3 ∙ ap (λ z. z +ℤ at c.args.self.now.tops c.args.l) o)
+    ∙ ap (λ z. int_min z c.sum-alone.result) (e4 ∙ ap (λ z. int_min c.args.bound (int_min z c.sum-by_i.result)) e1 ∙ ap (λ z. int_min c.args.bound (int_min (at c.args.self.now.to_j.now c.args.k +ℤ at c.args.self.now.from_j.now c.args.l) z)) e2)
+    ∙ ap (λ z. int_min (least_way c.args.self.now.to_j.now c.args.self.now.from_j.now c.args.self.now.to_i.now c.args.self.now.from_i.now c.args.bound c.args.k c.args.l) z) (e3 ∙ ap (λ z. z +ℤ at c.args.self.now.tops.now c.args.l) o)

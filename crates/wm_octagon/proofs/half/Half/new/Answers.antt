@@ -1,9 +1,9 @@
 use Rattle.std.proofs.Common.{◌≡◌, ◌∙◌, sym, subst}
 use Rattle.wm_octagon.specs.HalfTable.{HalfTable}
-use Rattle.wm_octagon.specs.Points.{IsTight, LeastOctagon}
+use Rattle.wm_octagon.specs.Points.{IsPoint, IsTight, LeastOctagon}
 use Rattle.wm_octagon.specs.Ranges.{InRanges, box_table}
 use Rattle.wm_octagon.proofs.Least.{tight_of_least}
-use Rattle.wm_octagon.proofs.Ranges.{box-small, box-half, box-least}
+use Rattle.wm_octagon.proofs.Ranges.{box-small, box-half, box-least, box-points}
 use Rattle.wm_octagon.proofs.half.Half.new.Goals as goal
 
 pub change-requires-clause-sized : goal.change-requires-clause-sized
@@ -21,3 +21,8 @@ returns-clause-least c = subst (λ (h : HalfTable). LeastOctagon h.variables (In
 
 pub returns-clause-tight : goal.returns-clause-tight
 returns-clause-tight c = subst (λ (h : HalfTable). IsTight h.variables h.bounds) (sym (list c)) (tight_of_least _ _ _ (box-least c.args.ranges.now))
+
+pub returns-clause-points : goal.returns-clause-points
+returns-clause-points c = λ x.
+    subst (λ (h : HalfTable). (IsPoint h.variables h.bounds x → InRanges c.args.ranges.now x) × (InRanges c.args.ranges.now x → IsPoint h.variables h.bounds x)) (sym (list c))
+    (box-points c.args.ranges.now x, (box-least c.args.ranges.now).holds x)

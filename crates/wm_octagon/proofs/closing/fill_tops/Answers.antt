@@ -1,17 +1,20 @@
-use Rattle.std.proofs.Common.{◌≡◌, ◌∙◌, ◌+ℤ◌, arith, subst, ap, refl}
+use Rattle.std.proofs.Common.{◌≡◌, ◌∙◌, ◌+ℤ◌, arith, subst, ap, sym, length, pos}
 use Rattle.std.proofs.lemmas.Int.{to_z-of_z}
-use Rattle.std.proofs.lemmas.List.{length-set}
+use Rattle.std.proofs.lemmas.List.{length-set, length-replicate}
 use Rattle.std.specs.Int.{int_min}
 use Rattle.wm_octagon.specs.Medium.{IsMedium}
 use Rattle.wm_octagon.specs.Layout.{opposite, bound}
 use Rattle.wm_octagon.specs.Closing.{half_of}
 use Rattle.wm_octagon.specs.Ways.{at, least_way}
 use Rattle.wm_octagon.proofs.Small.{medium-zero, medium_read, fits_small, fits_medium}
-use Rattle.wm_octagon.proofs.Filled.{filled-none, filled-more}
-use Rattle.wm_octagon.proofs.closing.new_tops.Goals as goal
+use Rattle.wm_octagon.proofs.Filled.{filled-clear, filled-more}
+use Rattle.wm_octagon.proofs.closing.fill_tops.Goals as goal
 
 pub loop-k-init : goal.loop-k-init
-loop-k-init c = record { long = refl; filled = filled-none IsMedium _ 64 medium-zero }
+loop-k-init c = record {
+  long = ap length c.requires.clear ∙ length-replicate 64 (pos 0);
+  filled = filled-clear IsMedium (λ k. half_of (least_way c.args.to_j.now c.args.from_j.now c.args.to_i.now c.args.from_i.now (bound c.args.half.now.bounds (opposite k) k) (opposite k) k)) c.args.tops.now c.requires.clear medium-zero;
+}
 
 pub loop-k-preserved : goal.loop-k-preserved
 loop-k-preserved c =

@@ -3,7 +3,7 @@ use Rattle.wm_octagon.specs.Layout.{opposite, bound}
 use Rattle.wm_octagon.specs.Closing.{half_of}
 use Rattle.wm_octagon.specs.Medium.{IsMedium, Filled}
 use Rattle.wm_octagon.specs.Ways.{least_way}
-use Rattle.wm_octagon.proofs.closing.new_tops.Given as goal
+use Rattle.wm_octagon.proofs.closing.fill_tops.Given as goal
 
 abbrev pub invariant-loop-k : goal.invariant-loop-k
 invariant-loop-k l = record {

@@ -2,7 +2,7 @@ use Rattle.std.proofs.Common.{◌≡◌, length}
 use Rattle.wm_octagon.specs.Closing.{through}
 use Rattle.wm_octagon.specs.Medium.{IsMedium, Filled}
 use Rattle.wm_octagon.specs.Ways.{at}
-use Rattle.wm_octagon.proofs.closing.ways.Given as goal
+use Rattle.wm_octagon.proofs.closing.fill_ways.Given as goal
 
 abbrev pub invariant-loop-k : goal.invariant-loop-k
 invariant-loop-k l = record {

@@ -2,7 +2,7 @@ use Rattle.std.proofs.Common.{◌≡◌, length}
 use Rattle.wm_octagon.specs.Layout.{bound}
 use Rattle.wm_octagon.specs.HalfTable.{IsSmall}
 use Rattle.wm_octagon.specs.Medium.{Filled}
-use Rattle.wm_octagon.proofs.half.Half.row.Given as goal
+use Rattle.wm_octagon.proofs.half.Half.fill_row.Given as goal
 
 abbrev pub invariant-loop-l : goal.invariant-loop-l
 invariant-loop-l l = record {

@@ -1,13 +1,16 @@
-use Rattle.std.proofs.Common.{◌∙◌, arith, subst, refl}
-use Rattle.std.proofs.lemmas.List.{length-set}
+use Rattle.std.proofs.Common.{◌∙◌, arith, ap, subst, sym, length, pos}
+use Rattle.std.proofs.lemmas.List.{length-set, length-replicate}
 use Rattle.wm_octagon.specs.HalfTable.{IsSmall}
 use Rattle.wm_octagon.specs.Layout.{bound}
 use Rattle.wm_octagon.proofs.Small.{small_read, small-zero}
-use Rattle.wm_octagon.proofs.Filled.{filled-none, filled-more}
-use Rattle.wm_octagon.proofs.half.Half.row.Goals as goal
+use Rattle.wm_octagon.proofs.Filled.{filled-clear, filled-more}
+use Rattle.wm_octagon.proofs.half.Half.fill_row.Goals as goal
 
 pub loop-l-init : goal.loop-l-init
-loop-l-init c = record { long = refl; filled = filled-none IsSmall _ 64 small-zero }
+loop-l-init c = record {
+  long = ap length c.requires.clear ∙ length-replicate 64 (pos 0);
+  filled = filled-clear IsSmall (bound c.args.self.now.bounds c.args.k) c.args.row.now c.requires.clear small-zero;
+}
 
 pub loop-l-preserved : goal.loop-l-preserved
 loop-l-preserved c = record {

@@ -1,15 +1,18 @@
-use Rattle.std.proofs.Common.{◌≡◌, ◌∙◌, ◌+ℤ◌, arith, subst, ap, refl, to_z, of_z, w64}
-use Rattle.std.proofs.lemmas.List.{length-set}
+use Rattle.std.proofs.Common.{◌≡◌, ◌∙◌, ◌+ℤ◌, arith, subst, ap, sym, length, pos, to_z, of_z, w64}
+use Rattle.std.proofs.lemmas.List.{length-set, length-replicate}
 use Rattle.std.specs.Int.{int_min}
 use Rattle.wm_octagon.specs.Medium.{IsMedium}
 use Rattle.wm_octagon.specs.Closing.{through}
 use Rattle.wm_octagon.specs.Ways.{at}
 use Rattle.wm_octagon.proofs.Small.{small_read, medium-zero, medium_read}
-use Rattle.wm_octagon.proofs.Filled.{filled-none, filled-more}
-use Rattle.wm_octagon.proofs.closing.ways.Goals as goal
+use Rattle.wm_octagon.proofs.Filled.{filled-clear, filled-more}
+use Rattle.wm_octagon.proofs.closing.fill_ways.Goals as goal
 
 pub loop-k-init : goal.loop-k-init
-loop-k-init c = record { long = refl; filled = filled-none IsMedium _ 64 medium-zero }
+loop-k-init c = record {
+  long = ap length c.requires.clear ∙ length-replicate 64 (pos 0);
+  filled = filled-clear IsMedium (through (at c.args.near.now) (at c.args.far.now) (to_z w64 (of_z w64 c.args.around)) (to_z w64 (of_z w64 c.args.c))) c.args.ways.now c.requires.clear medium-zero;
+}
 
 pub loop-k-preserved : goal.loop-k-preserved
 unfolding through
