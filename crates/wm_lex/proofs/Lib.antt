@@ -5,3 +5,6 @@ pub mod MacroPlaces
 pub mod MapOfWords
 pub mod WalkSteps
 pub mod LineSteps
+pub mod LoopLaw
+pub mod FirstFault
+pub mod FaultOrder

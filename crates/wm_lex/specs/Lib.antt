@@ -1,6 +1,7 @@
 pub mod Answers
 pub mod Characters
 pub mod Comments
+pub mod Faults
 pub mod Keys
 pub mod Lexemes
 pub mod Lines
@@ -8,6 +9,7 @@ pub mod Macros
 pub mod Numbers
 pub mod Pieces
 pub mod Punctuation
+pub mod Reaching
 pub mod Replacing
 pub mod Splices
 pub mod Walks

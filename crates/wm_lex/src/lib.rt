@@ -8,6 +8,7 @@ mod definitions;
 mod directive;
 mod fault;
 mod key;
+mod laws;
 mod lexeme;
 mod lexing;
 mod number;
@@ -19,6 +20,7 @@ mod state;
 mod walk;
 
 pub use fault::LexFault;
+pub use laws::lex_laws;
 pub use lexing::lex;
 
 #[cfg(test)]
