@@ -1,0 +1,4 @@
+pub mod Fault
+pub mod Gap
+pub mod Replay
+pub mod Words
