@@ -1,0 +1,4 @@
+pub mod Beside
+pub mod Steps
+pub mod Given
+pub mod Grid

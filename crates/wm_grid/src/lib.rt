@@ -1,0 +1,12 @@
+//! The grid of a program: the numbers at which the finder looks for bounds.
+#![tactic(auto)]
+
+mod beside;
+mod given;
+mod grid;
+mod nearest;
+mod steps;
+#[cfg(test)]
+mod tests;
+
+pub use grid::Grid;
