@@ -1,0 +1,9 @@
+pub mod Constants
+pub mod Endings
+pub mod Firsts
+pub mod Numbers
+pub mod Pieces
+pub mod Reading
+pub mod Source
+pub mod Steps
+pub mod Written
