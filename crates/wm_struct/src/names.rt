@@ -1,0 +1,10 @@
+// How far the members of a struct are listed.
+use crate::member::Member;
+use crate::table::Table;
+
+/// The members of a struct so far, and how many more it may have.
+#[derive(Drop)]
+pub struct Listing<'u> {
+    pub members: Table<'u, Member<'u>>,
+    pub room: usize,
+}
