@@ -1,0 +1,12 @@
+pub mod Agree
+pub mod Arms
+pub mod Calling
+pub mod Events
+pub mod Follow
+pub mod Levels
+pub mod Notes
+pub mod Routines
+pub mod Rows
+pub mod Runs
+pub mod Statements
+pub mod Steps

@@ -1,0 +1,7 @@
+-- Failures that are grouped.
+use Rattle.std.specs.Prelude.{suc}
+use Rattle.wm_link.specs.declared.results.Event.{Event}
+
+-- once more
+abbrev pub counted_again : Event → Event
+counted_again event = record event { times = suc event.times }

@@ -1,0 +1,11 @@
+pub mod Doing
+pub mod Events
+pub mod Frames
+pub mod Going
+pub mod Held
+pub mod Layers
+pub mod Parts
+pub mod Projected
+pub mod Rows
+pub mod Seen
+pub mod Standing
