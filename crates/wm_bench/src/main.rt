@@ -1,5 +1,6 @@
-//! The calls that other programs are set beside, on boxes and octagons of a fixed generator. With the word `checksums` it
-//! prints a line `NAME CHECKSUM` for each call, with `speed` a line `NAME CALLS_PER_SECOND CHECKSUM`.
+//! The calls that other programs are set beside, on boxes, octagons and sources of a fixed generator. With the word `checksums` it
+//! prints a line `NAME CHECKSUM` for each call, with `speed` a line `NAME CALLS_PER_SECOND CHECKSUM`; for the
+//! tokens of a source the bytes are counted in place of calls.
 #![tactic(auto)]
 
 ghost use Rattle.std.specs.Prelude.{◌<◌, ◌≤◌};
@@ -8,6 +9,7 @@ mod boxes;
 mod calls;
 mod draws;
 mod octagons;
+mod sources;
 mod timing;
 
 use boxes::boxes_of;
@@ -90,6 +92,13 @@ fn print_octagon<R: Print + Clock + Alloc<A = Global>>(
     print_call(rt, mode, within.as_str(), Call::WithinItself(&drawn))
 }
 
+fn print_sources<R: Print + Clock + Alloc<A = Global>>(rt: &R, mode: Mode) -> io::Result<()> {
+    let large = sources::large(rt.alloc())?;
+    print_call(rt, mode, "lex large", Call::Lex(&large))?;
+    let chain = sources::chain(rt.alloc())?;
+    print_call(rt, mode, "lex chain", Call::Lex(&chain))
+}
+
 fn main(rt: HostRuntime) -> io::Result<()> {
     let mode = asked_mode(&rt)?;
     for number in 0..OPERATORS {
@@ -100,5 +109,6 @@ fn main(rt: HostRuntime) -> io::Result<()> {
     print_octagon(&rt, mode, 8)?;
     print_octagon(&rt, mode, 16)?;
     print_octagon(&rt, mode, 28)?;
-    print_octagon(&rt, mode, 32)
+    print_octagon(&rt, mode, 32)?;
+    print_sources(&rt, mode)
 }
