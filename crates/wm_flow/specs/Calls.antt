@@ -3,7 +3,7 @@
 -- those of the exit, and the caller's locals, counters and temporaries those of the call.
 use Rattle.std.specs.Prelude.{ℕ, zero, suc, ◌+◌, ◌-◌, Bool, true, false, if◌then◌else◌, List, [], ◌∷◌, ◌++◌, map, length, replicate, Option, Some, None, slice_index_or, slice_get}
 use Rattle.std.specs.Option.{option_map_or}
-use Rattle.wm_link.specs.Code.{Code, Routine, routine_at, function_of}
+use Rattle.wm_program.specs.Code.{Code, Routine, routine_at, function_of}
 use Rattle.wm_flow.specs.declared.action.Argument.{Argument}
 use Rattle.wm_flow.specs.declared.action.Returned.{Returned}
 use Rattle.wm_flow.specs.declared.kept.Kept.{Kept}

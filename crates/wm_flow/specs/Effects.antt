@@ -5,10 +5,10 @@ use Rattle.std.specs.Option.{option_map_or}
 use Rattle.wm_ops.specs.declared.operators.Op.{Op}
 use Rattle.wm_ops.specs.declared.operators.Width.{Width}
 use Rattle.wm_ops.specs.declared.words.Counted.TheVariants as counted
-use Rattle.wm_link.specs.declared.tree.Array.{Array}
-use Rattle.wm_link.specs.declared.tree.PlainMark.{PlainMark}
-use Rattle.wm_link.specs.declared.tree.Scalar.TheVariants as scalar
-use Rattle.wm_link.specs.Tree.{Expression, Arguments, Target, Effect, Fresh, Constant, Named, Element, Operator, Invoke, Plain, Negate, Plus, Cast, Variable, Item, Assign, Update, Evaluate, Count, Given, Filled, Blank, Listed}
+use Rattle.wm_program.specs.declared.tree.Array.{Array}
+use Rattle.wm_program.specs.declared.tree.PlainMark.{PlainMark}
+use Rattle.wm_program.specs.declared.tree.Scalar.TheVariants as scalar
+use Rattle.wm_program.specs.Tree.{Expression, Arguments, Target, Effect, Fresh, Constant, Named, Element, Operator, Invoke, Plain, Negate, Plus, Cast, Variable, Item, Assign, Update, Evaluate, Count, Given, Filled, Blank, Listed}
 use Rattle.wm_flow.specs.declared.kept.Kept.{Kept}
 use Rattle.wm_flow.specs.Plain.{Range, Doing, AssignForm, SetArray, Write, Clear}
 use Rattle.wm_flow.specs.Plain as plain

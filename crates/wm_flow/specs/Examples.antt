@@ -4,9 +4,9 @@ use Rattle.wm_ops.specs.declared.operators.Op.TheVariants.{Sub, Shl, DivS}
 use Rattle.wm_ops.specs.declared.words.Counted.TheVariants as counted
 use Rattle.wm_domain.specs.declared.form.Form.{Form}
 use Rattle.wm_domain.specs.declared.form.Relation.TheVariants.{AtMost}
-use Rattle.wm_link.specs.declared.program.LoopInfo.{LoopInfo}
-use Rattle.wm_link.specs.Code.{Code}
-use Rattle.wm_link.specs.Examples.{quotient_code, shifting_code}
+use Rattle.wm_program.specs.declared.program.LoopInfo.{LoopInfo}
+use Rattle.wm_program.specs.Code.{Code}
+use Rattle.wm_program.specs.Examples.{quotient_code, shifting_code}
 use Rattle.wm_flow.specs.declared.graph.Head.{Head}
 use Rattle.wm_flow.specs.Plain.{Range, Layout, Bounded, Doing, Arc, Flow, Operate, Clear, Keep, Count, Enter, Reset, Turn, Inputs}
 use Rattle.wm_flow.specs.Graphs.{graph_of}

@@ -7,14 +7,14 @@ use Rattle.wm_domain.specs.declared.form.Form.{Form}
 use Rattle.wm_ops.specs.declared.operators.Width.{Width}
 use Rattle.wm_ops.specs.declared.operators.Width.TheVariants.{W16, W32}
 use Rattle.wm_ops.specs.declared.words.Counted.TheVariants as counted
-use Rattle.wm_link.specs.declared.program.Root.{Root}
-use Rattle.wm_link.specs.declared.tree.Scalar.{Scalar}
-use Rattle.wm_link.specs.declared.tree.Array.{Array}
-use Rattle.wm_link.specs.declared.tree.PlainMark.{PlainMark}
-use Rattle.wm_link.specs.declared.tree.PlainMark.TheVariants as mark
-use Rattle.wm_link.specs.Tree.{Expression, Arguments, Constant, Named, Element, Operator, Invoke, Plain, Negate, Plus, Cast, Done, Value, Whole, From}
-use Rattle.wm_link.specs.Code.{function_of, length_of}
-use Rattle.wm_link.specs.State.{root_of}
+use Rattle.wm_program.specs.declared.program.Root.{Root}
+use Rattle.wm_program.specs.declared.tree.Scalar.{Scalar}
+use Rattle.wm_program.specs.declared.tree.Array.{Array}
+use Rattle.wm_program.specs.declared.tree.PlainMark.{PlainMark}
+use Rattle.wm_program.specs.declared.tree.PlainMark.TheVariants as mark
+use Rattle.wm_program.specs.Tree.{Expression, Arguments, Constant, Named, Element, Operator, Invoke, Plain, Negate, Plus, Cast, Done, Value, Whole, From}
+use Rattle.wm_program.specs.Code.{function_of, length_of}
+use Rattle.wm_program.specs.State.{root_of}
 use Rattle.wm_flow.specs.declared.action.Combined.{Combined}
 use Rattle.wm_flow.specs.declared.action.Combined.TheVariants.{Itself, Sum, Difference, Negative}
 use Rattle.wm_flow.specs.declared.kept.Kept.{Kept}

@@ -1,7 +1,7 @@
 -- The graph of a program: the strokes of its instances in the order of evaluation, and what is drawn with them.
 use Rattle.std.specs.Prelude.{ℕ, zero, suc, ◌+◌, ◌-◌, Bool, ◌&&◌, if◌then◌else◌, ◌==◌, List, [], ◌∷◌, ◌++◌, length, replicate, Option, Some, None, slice_set, slice_index_or}
 use Rattle.std.specs.Option.{option_map_or}
-use Rattle.wm_link.specs.Code.{Code, Input, function_of}
+use Rattle.wm_program.specs.Code.{Code, Input, function_of}
 use Rattle.wm_flow.specs.declared.graph.Head.{Head}
 use Rattle.wm_flow.specs.declared.graph.Sum.{Sum}
 use Rattle.wm_flow.specs.declared.seats.Seat.{Seat}

@@ -1,8 +1,8 @@
 -- Laws on what a node shows of a running program.
 use Rattle.std.specs.Prelude.{◌≡◌, ℕ, List, ℤ, Some}
-use Rattle.wm_link.specs.declared.tree.Scalar.{Scalar}
-use Rattle.wm_link.specs.declared.program.Root.{Root}
-use Rattle.wm_link.specs.State.{State, number_at, place_of, cells_of}
+use Rattle.wm_program.specs.declared.tree.Scalar.{Scalar}
+use Rattle.wm_program.specs.declared.program.Root.{Root}
+use Rattle.wm_program.specs.State.{State, number_at, place_of, cells_of}
 use Rattle.std.specs.Prelude.{slice_get}
 use Rattle.wm_flow.specs.Kept.{at}
 use Rattle.wm_flow.specs.Points.{Store}

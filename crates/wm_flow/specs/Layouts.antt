@@ -3,10 +3,10 @@ use Rattle.std.specs.Prelude.{ℕ, zero, suc, ◌+◌, Bool, true, false, not, �
 use Rattle.std.specs.Option.{option_map_or}
 use Rattle.wm_ops.specs.declared.operators.Width.{Width}
 use Rattle.wm_ops.specs.declared.operators.Width.TheVariants.{W16, W32}
-use Rattle.wm_link.specs.declared.program.LocalInfo.{LocalInfo}
-use Rattle.wm_link.specs.declared.program.ObjectInfo.{ObjectInfo}
-use Rattle.wm_link.specs.declared.program.Root.{Root}
-use Rattle.wm_link.specs.Code.{Code, routine_at, function_of, roots_of, length_of}
+use Rattle.wm_program.specs.declared.program.LocalInfo.{LocalInfo}
+use Rattle.wm_program.specs.declared.program.ObjectInfo.{ObjectInfo}
+use Rattle.wm_program.specs.declared.program.Root.{Root}
+use Rattle.wm_program.specs.Code.{Code, routine_at, function_of, roots_of, length_of}
 use Rattle.wm_flow.specs.Plain.{Range, Layout}
 use Rattle.wm_flow.specs.Seats.{is_stored, is_array}
 

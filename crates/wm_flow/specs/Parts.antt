@@ -1,7 +1,7 @@
 -- The nodes and edges of an instance: those of its function's body, with those of what it calls in their places.
 use Rattle.std.specs.Prelude.{ℕ, zero, suc, ◌+◌, ◌-◌, if◌then◌else◌, List, [], ◌∷◌, ◌++◌, length, replicate, Option, Some, None, slice_index_or, slice_set}
 use Rattle.std.specs.Option.{option_map_or}
-use Rattle.wm_link.specs.Code.{Code, routine_at, function_of}
+use Rattle.wm_program.specs.Code.{Code, routine_at, function_of}
 use Rattle.wm_flow.specs.declared.graph.Sum.{Sum}
 use Rattle.wm_flow.specs.declared.seats.LocalSeat.{LocalSeat}
 use Rattle.wm_flow.specs.declared.seats.LocalSeat.TheVariants as local_seat

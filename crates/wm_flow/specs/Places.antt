@@ -6,14 +6,14 @@
 use Rattle.std.specs.Prelude.{ℕ, zero, suc, ◌+◌, ◌-◌, min, Bool, ◌||◌, ◌&&◌, not, if◌then◌else◌, ◌==◌, nat_lt, List, [], ◌∷◌, length, ℤ, pos, Option, Some, None, slice_index_or}
 use Rattle.std.specs.Option.{option_map_or}
 use Rattle.wm_domain.specs.declared.form.Term.{Term}
-use Rattle.wm_link.specs.declared.program.Root.{Root}
-use Rattle.wm_link.specs.declared.program.Root.TheVariants as root
-use Rattle.wm_link.specs.declared.tree.Scalar.{Scalar}
-use Rattle.wm_link.specs.declared.tree.Scalar.TheVariants as scalar
-use Rattle.wm_link.specs.declared.tree.Array.{Array}
-use Rattle.wm_link.specs.declared.tree.Array.TheVariants as array
-use Rattle.wm_link.specs.Code.{Code, function_of, roots_of}
-use Rattle.wm_link.specs.State.{Here, root_of}
+use Rattle.wm_program.specs.declared.program.Root.{Root}
+use Rattle.wm_program.specs.declared.program.Root.TheVariants as root
+use Rattle.wm_program.specs.declared.tree.Scalar.{Scalar}
+use Rattle.wm_program.specs.declared.tree.Scalar.TheVariants as scalar
+use Rattle.wm_program.specs.declared.tree.Array.{Array}
+use Rattle.wm_program.specs.declared.tree.Array.TheVariants as array
+use Rattle.wm_program.specs.Code.{Code, function_of, roots_of}
+use Rattle.wm_program.specs.State.{Here, root_of}
 use Rattle.wm_flow.specs.declared.graph.Sum.{Sum}
 use Rattle.wm_flow.specs.declared.kept.Kept.{Kept}
 use Rattle.wm_flow.specs.declared.seats.Seat.{Seat}

@@ -4,7 +4,7 @@ use Rattle.wm_ops.specs.declared.operators.Op.{Op}
 use Rattle.wm_ops.specs.declared.words.Counted.{Counted}
 use Rattle.wm_domain.specs.declared.form.Form.{Form}
 use Rattle.wm_domain.specs.declared.form.Relation.{Relation}
-use Rattle.wm_link.specs.declared.tree.PlainMark.{PlainMark}
+use Rattle.wm_program.specs.declared.tree.PlainMark.{PlainMark}
 use Rattle.wm_flow.specs.declared.action.Argument.{Argument}
 use Rattle.wm_flow.specs.declared.action.Combined.{Combined}
 use Rattle.wm_flow.specs.declared.action.Growth.{Growth}

@@ -14,9 +14,9 @@ use Rattle.wm_ops.specs.declared.outcomes.Outcome.TheVariants as outcome
 use Rattle.wm_domain.specs.declared.form.Form.{Form}
 use Rattle.wm_domain.specs.declared.form.Relation.{Relation}
 use Rattle.wm_domain.specs.declared.form.Relation.TheVariants as relation
-use Rattle.wm_link.specs.declared.results.Cause.TheVariants as cause
-use Rattle.wm_link.specs.Numbers.{plain_of, cast_to}
-use Rattle.wm_link.specs.State.{Note, Counts, Evaluated, Failed, Entered, Turned}
+use Rattle.wm_program.specs.declared.results.Cause.TheVariants as cause
+use Rattle.wm_program.specs.Numbers.{plain_of, cast_to}
+use Rattle.wm_program.specs.State.{Note, Counts, Evaluated, Failed, Entered, Turned}
 use Rattle.wm_flow.specs.declared.action.Argument.{Argument}
 use Rattle.wm_flow.specs.declared.action.Growth.{Growth}
 use Rattle.wm_flow.specs.declared.action.Returned.{Returned}

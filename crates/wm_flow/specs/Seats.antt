@@ -3,11 +3,11 @@
 use Rattle.std.specs.Prelude.{ℕ, zero, suc, ◌+◌, Bool, true, false, not, ◌||◌, if◌then◌else◌, ◌==◌, nat_lt, List, [], ◌∷◌, ◌++◌, map, length, ℤ, pos, Option, Some, None, slice_get, slice_index_or}
 use Rattle.std.specs.Int.{int_max, int_min}
 use Rattle.std.specs.Option.{option_map_or}
-use Rattle.wm_link.specs.declared.program.ObjectInfo.{ObjectInfo}
-use Rattle.wm_link.specs.declared.program.LocalInfo.{LocalInfo}
-use Rattle.wm_link.specs.declared.program.InstanceInfo.{InstanceInfo}
-use Rattle.wm_link.specs.declared.program.LoopInfo.{LoopInfo}
-use Rattle.wm_link.specs.Code.{Code, Routine}
+use Rattle.wm_program.specs.declared.program.ObjectInfo.{ObjectInfo}
+use Rattle.wm_program.specs.declared.program.LocalInfo.{LocalInfo}
+use Rattle.wm_program.specs.declared.program.InstanceInfo.{InstanceInfo}
+use Rattle.wm_program.specs.declared.program.LoopInfo.{LoopInfo}
+use Rattle.wm_program.specs.Code.{Code, Routine}
 use Rattle.wm_flow.specs.declared.seats.Seat.{Seat}
 use Rattle.wm_flow.specs.declared.seats.Seat.TheVariants as seat
 use Rattle.wm_flow.specs.declared.seats.LocalSeat.{LocalSeat}

@@ -2,11 +2,11 @@
 -- they stand, and its arrays the cells. A local whose cell is unset may have any number.
 use Rattle.std.specs.Prelude.{◌≡◌, ℕ, zero, suc, ◌+◌, ◌<◌, Bool, false, ◌||◌, ◌==◌, IsTrue, List, [], ◌∷◌, length, ℤ, pos, Option, Some, None, slice_get, slice_index_or, IfSome}
 use Rattle.std.specs.Option.{option_map_or}
-use Rattle.wm_link.specs.declared.program.Root.{Root}
-use Rattle.wm_link.specs.declared.program.Root.TheVariants as root
-use Rattle.wm_link.specs.declared.tree.Scalar.{Scalar}
-use Rattle.wm_link.specs.Code.{Code}
-use Rattle.wm_link.specs.State.{State, Place, Here, number_at, number_in, cells_of, place_of}
+use Rattle.wm_program.specs.declared.program.Root.{Root}
+use Rattle.wm_program.specs.declared.program.Root.TheVariants as root
+use Rattle.wm_program.specs.declared.tree.Scalar.{Scalar}
+use Rattle.wm_program.specs.Code.{Code}
+use Rattle.wm_program.specs.State.{State, Place, Here, number_at, number_in, cells_of, place_of}
 use Rattle.wm_flow.specs.Plain.{Range, Layout}
 use Rattle.wm_flow.specs.Layouts.{caller_of}
 use Rattle.wm_flow.specs.Kept.{at}

@@ -6,7 +6,7 @@ use Rattle.std.specs.Option.{option_map_or}
 use Rattle.wm_ops.specs.declared.words.ControlWord.{ControlWord}
 use Rattle.wm_ops.specs.declared.words.ControlWord.TheVariants as words
 use Rattle.wm_ops.specs.declared.words.Counted.TheVariants as counted
-use Rattle.wm_link.specs.Tree.{Expression, Test, Effect, Fresh, Tree, Given, Filled, Blank, Listed, Skip, Seq, Block, Empty, Declare, Act, If, IfElse, For, While, Do, Break, Continue, Return, Leave}
+use Rattle.wm_program.specs.Tree.{Expression, Test, Effect, Fresh, Tree, Given, Filled, Blank, Listed, Skip, Seq, Block, Empty, Declare, Act, If, IfElse, For, While, Do, Break, Continue, Return, Leave}
 use Rattle.wm_domain.specs.declared.form.Term.{Term}
 use Rattle.wm_flow.specs.declared.action.Growth.{Growth}
 use Rattle.wm_flow.specs.declared.graph.Sum.{Sum}

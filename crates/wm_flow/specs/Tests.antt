@@ -6,9 +6,9 @@ use Rattle.wm_ops.specs.declared.operators.Op.{Op}
 use Rattle.wm_ops.specs.declared.operators.Op.TheVariants as ops
 use Rattle.wm_domain.specs.declared.form.Relation.{Relation}
 use Rattle.wm_domain.specs.declared.form.Relation.TheVariants.{AtMost, Equal, NotEqual}
-use Rattle.wm_link.specs.declared.tree.Comparison.{Comparison}
-use Rattle.wm_link.specs.declared.tree.Comparison.TheVariants as compare
-use Rattle.wm_link.specs.Tree.{Expression, Arguments, Test, Constant, Named, Element, Operator, Invoke, Plain, Negate, Plus, Cast, Always, Either, Both, Not, Compare, Truth}
+use Rattle.wm_program.specs.declared.tree.Comparison.{Comparison}
+use Rattle.wm_program.specs.declared.tree.Comparison.TheVariants as compare
+use Rattle.wm_program.specs.Tree.{Expression, Arguments, Test, Constant, Named, Element, Operator, Invoke, Plain, Negate, Plus, Cast, Always, Either, Both, Not, Compare, Truth}
 use Rattle.wm_flow.specs.declared.kept.Kept.{Kept}
 use Rattle.wm_flow.specs.Plain.{Doing, Keep}
 use Rattle.wm_flow.specs.Kept.{form_of, constant, variable, collected, negative_of, is_side, is_zero}

@@ -1,7 +1,7 @@
 -- Forms that wait while a later operand is evaluated. A form with a scalar of static storage in it goes to a temporary
 -- before an operand that calls a function, one with Overflow in it also before an operand that calls an operator.
 use Rattle.std.specs.Prelude.{ℕ, suc, ◌+◌, Bool, true, false, ◌||◌, ◌&&◌, if◌then◌else◌, List, [], ◌∷◌, ◌++◌, Option, Some, None}
-use Rattle.wm_link.specs.Tree.{Expression, Arguments, Constant, Named, Element, Operator, Invoke, Plain, Negate, Plus, Cast, Done, Value, Whole, From}
+use Rattle.wm_program.specs.Tree.{Expression, Arguments, Constant, Named, Element, Operator, Invoke, Plain, Negate, Plus, Cast, Done, Value, Whole, From}
 use Rattle.wm_flow.specs.declared.kept.Kept.{Kept}
 use Rattle.wm_flow.specs.Plain.{AssignForm}
 use Rattle.wm_flow.specs.Kept.{form_of, variable}

@@ -2,7 +2,7 @@
 use wm_arrays::Summary;
 use wm_domain::{Form, Relation};
 use wm_interval::Interval;
-use wm_link::PlainMark;
+use wm_program::PlainMark;
 use wm_ops::{Counted, List, Op};
 
 /// The action of an edge. Variables and arrays are those of the source node; targets, parameters and counters are those

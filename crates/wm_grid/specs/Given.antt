@@ -1,10 +1,10 @@
 -- What a grid has beside the numbers that a program gives.
 use Rattle.std.specs.Prelude.{ℕ, List, [], ◌∷◌, ◌++◌, length, Bool, true, false, ℤ, pos, Option, Some, None, nat_lt, if◌then◌else◌}
 use Rattle.std.specs.Int.{int_max, int_min}
-use Rattle.wm_link.specs.declared.program.FunctionInfo.{FunctionInfo}
-use Rattle.wm_link.specs.declared.program.InputInfo.{InputInfo}
-use Rattle.wm_link.specs.declared.program.LocalInfo.{LocalInfo}
-use Rattle.wm_link.specs.declared.program.ObjectInfo.{ObjectInfo}
+use Rattle.wm_program.specs.declared.program.FunctionInfo.{FunctionInfo}
+use Rattle.wm_program.specs.declared.program.InputInfo.{InputInfo}
+use Rattle.wm_program.specs.declared.program.LocalInfo.{LocalInfo}
+use Rattle.wm_program.specs.declared.program.ObjectInfo.{ObjectInfo}
 use Rattle.wm_grid.specs.Beside.{near}
 
 abbrev pub near_each : List ℕ → List ℤ → List ℤ

@@ -1,7 +1,7 @@
 -- The grid of a program, and neighbours in a list of numbers.
 use Rattle.std.specs.Prelude.{ℕ, ◌≤◌, ◌<◌, List, [], ◌++◌, length, ℤ, ◌≤ℤ◌, slice_index_or}
 use Rattle.std.specs.List.{Contains}
-use Rattle.wm_link.specs.declared.program.Program.{Program}
+use Rattle.wm_program.specs.declared.program.Program.{Program}
 use Rattle.wm_grid.specs.Beside.{powers_to}
 use Rattle.wm_grid.specs.Given.{near_each, near_ranges, near_objects, near_functions}
 use Rattle.wm_grid.specs.Steps.{steps_from}

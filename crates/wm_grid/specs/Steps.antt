@@ -1,7 +1,7 @@
 -- The different steps of a program's loops, in the order of their first loops.
 use Rattle.std.specs.Prelude.{ℕ, List, [], ◌∷◌, ◌++◌, ◌==◌, if◌then◌else◌}
 use Rattle.std.specs.List.{list_any}
-use Rattle.wm_link.specs.declared.program.LoopInfo.{LoopInfo}
+use Rattle.wm_program.specs.declared.program.LoopInfo.{LoopInfo}
 
 abbrev pub with_step : List ℕ → ℕ → List ℕ
 with_step steps s = if list_any (λ y. y == s) steps then steps else steps ++ s ∷ []

@@ -6,7 +6,7 @@ ghost use Rattle.wm_grid.specs.Given.{near_each, near_range, near_ranges, first_
 
 use crate::beside::push_near;
 use std::alloc::AllocError;
-use wm_link::{FunctionInfo, InputInfo, LocalInfo, ObjectInfo};
+use wm_program::{FunctionInfo, InputInfo, LocalInfo, ObjectInfo};
 
 pub fn push_numbers(numbers: &mut Vec<i64>, steps: &[u32], given: &[i64]) -> Result<(), AllocError>
     ensures { OnOk result (numbers.new.items ≡ numbers.old.items ++ near_each steps.now given.now) }

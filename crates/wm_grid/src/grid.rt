@@ -10,7 +10,7 @@ use crate::nearest::{first_at_or_above, last_at_or_below};
 use crate::steps::steps_of;
 use std::alloc::{AllocError, Global};
 use std::marker::Model;
-use wm_link::Program;
+use wm_program::Program;
 use wm_ops::NoMemory;
 
 /// The numbers at which bounds are looked for.

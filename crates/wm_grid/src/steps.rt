@@ -3,7 +3,7 @@ ghost use Rattle.std.specs.Prelude.{◌≡◌, [], IfOk, OnOk};
 ghost use Rattle.wm_grid.specs.Steps.{with_step, steps_from};
 
 use std::alloc::{AllocError, Global};
-use wm_link::LoopInfo;
+use wm_program::LoopInfo;
 
 /// Puts a step at the end where it is not there yet.
 fn push_step(steps: &mut Vec<u32>, step: u32) -> Result<(), AllocError>

@@ -11,23 +11,23 @@ use Rattle.wm_ops.specs.declared.outcomes.Outcome.TheVariants as outcome
 use Rattle.wm_ops.specs.declared.words.Counted.{Counted}
 use Rattle.wm_ops.specs.declared.words.Counted.TheVariants as counted
 use Rattle.wm_ops.specs.declared.words.ControlWord.{ControlWord}
-use Rattle.wm_link.specs.declared.program.Root.{Root}
-use Rattle.wm_link.specs.declared.program.Root.TheVariants as root
-use Rattle.wm_link.specs.declared.results.Cause.{Cause}
-use Rattle.wm_link.specs.declared.results.Cause.TheVariants as cause
-use Rattle.wm_link.specs.declared.results.End.{End}
-use Rattle.wm_link.specs.declared.results.End.TheVariants as ends
-use Rattle.wm_link.specs.declared.tree.Scalar.{Scalar}
-use Rattle.wm_link.specs.declared.tree.Scalar.TheVariants as scalar
-use Rattle.wm_link.specs.declared.tree.Array.{Array}
-use Rattle.wm_link.specs.declared.tree.Array.TheVariants as array
-use Rattle.wm_link.specs.Numbers.{plain_of, compares, cast_to, is_outside, natural, operator_outcome}
-use Rattle.wm_link.specs.Tree.{Expression, Arguments, Test, Constant, Named, Element, Operator, Invoke, Plain, Negate, Plus, Cast, Done, Value, Whole, From, Always, Either, Both, Not, Compare, Truth}
-use Rattle.wm_link.specs.State.{State, Here, Place, Flag, At, Note, Counts, Evaluated, Failed, root_of, offset_of, place_of, number_at, number_in, set_number, cells_of, noted, failed_if, flagged, counting}
-use Rattle.wm_link.specs.Outcomes.{Got, Gives, Halts, then_get, tested}
-use Rattle.wm_link.specs.Code.{Code, length_of}
-use Rattle.wm_link.specs.Execution.{Calls, converted, computed, operated, operate, read, reach, begin_view, there, evaluate, evaluate_all, when, when_not, ask}
-use Rattle.wm_link.specs.Runs.{weight_in}
+use Rattle.wm_program.specs.declared.program.Root.{Root}
+use Rattle.wm_program.specs.declared.program.Root.TheVariants as root
+use Rattle.wm_program.specs.declared.results.Cause.{Cause}
+use Rattle.wm_program.specs.declared.results.Cause.TheVariants as cause
+use Rattle.wm_program.specs.declared.results.End.{End}
+use Rattle.wm_program.specs.declared.results.End.TheVariants as ends
+use Rattle.wm_program.specs.declared.tree.Scalar.{Scalar}
+use Rattle.wm_program.specs.declared.tree.Scalar.TheVariants as scalar
+use Rattle.wm_program.specs.declared.tree.Array.{Array}
+use Rattle.wm_program.specs.declared.tree.Array.TheVariants as array
+use Rattle.wm_program.specs.Numbers.{plain_of, compares, cast_to, is_outside, natural, operator_outcome}
+use Rattle.wm_program.specs.Tree.{Expression, Arguments, Test, Constant, Named, Element, Operator, Invoke, Plain, Negate, Plus, Cast, Done, Value, Whole, From, Always, Either, Both, Not, Compare, Truth}
+use Rattle.wm_program.specs.State.{State, Here, Place, Flag, At, Note, Counts, Evaluated, Failed, root_of, offset_of, place_of, number_at, number_in, set_number, cells_of, noted, failed_if, flagged, counting}
+use Rattle.wm_program.specs.Outcomes.{Got, Gives, Halts, then_get, tested}
+use Rattle.wm_program.specs.Code.{Code, length_of}
+use Rattle.wm_program.specs.Execution.{Calls, converted, computed, operated, operate, read, reach, begin_view, there, evaluate, evaluate_all, when, when_not, ask}
+use Rattle.wm_program.specs.Runs.{weight_in}
 use Rattle.wm_interp.specs.declared.halt.Location.{Location}
 use Rattle.wm_interp.specs.declared.halt.Location.TheVariants as location
 use Rattle.wm_interp.specs.Held.{Held, Gets, Has, Ends, then_on, with_count, failed_on, failed_if_on, flagged_on, tested_on}

@@ -4,23 +4,23 @@ use Rattle.std.specs.Prelude.{slice_get, neg_ℤ}
 use Rattle.std.specs.Ordering.{int_eq}
 use Rattle.wm_ops.specs.declared.operators.Op.{Op}
 use Rattle.wm_ops.specs.declared.operators.Width.{Width}
-use Rattle.wm_link.specs.declared.tree.Scalar as scalar_type
-use Rattle.wm_link.specs.declared.tree.Array.{Array}
-use Rattle.wm_link.specs.declared.tree.Comparison.{Comparison}
-use Rattle.wm_link.specs.declared.tree.Converted.{Converted}
-use Rattle.wm_link.specs.declared.tree.Link.{Link}
-use Rattle.wm_link.specs.declared.tree.Passed.{Passed}
-use Rattle.wm_link.specs.declared.tree.Passed.TheVariants as passed
-use Rattle.wm_link.specs.declared.tree.View.TheVariants as view
-use Rattle.wm_link.specs.declared.tree.Call as call_type
-use Rattle.wm_link.specs.declared.tree.Expr.{Expr}
-use Rattle.wm_link.specs.declared.tree.Expr.TheVariants as expr
-use Rattle.wm_link.specs.declared.tree.Condition.{Condition}
-use Rattle.wm_link.specs.declared.tree.Condition.TheVariants as condition
-use Rattle.wm_link.specs.Numbers.{plain_of, compares, cast_to}
-use Rattle.wm_link.specs.Tree.{Expression, Test, Plain}
-use Rattle.wm_link.specs.Trees.{expression_of, test_of, chain_of, either_of, both_of}
-use Rattle.wm_link.specs.Execution.{there}
+use Rattle.wm_program.specs.declared.tree.Scalar as scalar_type
+use Rattle.wm_program.specs.declared.tree.Array.{Array}
+use Rattle.wm_program.specs.declared.tree.Comparison.{Comparison}
+use Rattle.wm_program.specs.declared.tree.Converted.{Converted}
+use Rattle.wm_program.specs.declared.tree.Link.{Link}
+use Rattle.wm_program.specs.declared.tree.Passed.{Passed}
+use Rattle.wm_program.specs.declared.tree.Passed.TheVariants as passed
+use Rattle.wm_program.specs.declared.tree.View.TheVariants as view
+use Rattle.wm_program.specs.declared.tree.Call as call_type
+use Rattle.wm_program.specs.declared.tree.Expr.{Expr}
+use Rattle.wm_program.specs.declared.tree.Expr.TheVariants as expr
+use Rattle.wm_program.specs.declared.tree.Condition.{Condition}
+use Rattle.wm_program.specs.declared.tree.Condition.TheVariants as condition
+use Rattle.wm_program.specs.Numbers.{plain_of, compares, cast_to}
+use Rattle.wm_program.specs.Tree.{Expression, Test, Plain}
+use Rattle.wm_program.specs.Trees.{expression_of, test_of, chain_of, either_of, both_of}
+use Rattle.wm_program.specs.Execution.{there}
 use Rattle.wm_interp.specs.Held.{Held, Gets, Has, Ends, then_on}
 use Rattle.wm_interp.specs.Going.{Setting, converted_on, computed_on, named_on, element_on, operate_on, evaluate_on, three_on, gather_on, links_on}
 use Rattle.wm_interp.specs.Doing.{ask_on, unless_on, when_on}

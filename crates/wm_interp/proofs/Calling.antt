@@ -2,18 +2,18 @@
 use Rattle.std.proofs.Common.{◌≡◌, ℕ, zero, suc, ◌+◌, ◌<◌, ◌≤◌, ℤ, List, [], ◌∷◌, ◌++◌, map, length, drop, replicate, Option, Some, None, refl, sym, ap, ◌∙◌, arith, add-one}
 use Rattle.std.specs.Prelude.{slice_index_or, slice_get}
 use Rattle.wm_interp.specs.Seen.{first_cells}
-use Rattle.wm_link.specs.declared.program.LocalInfo.{LocalInfo}
-use Rattle.wm_link.specs.declared.program.Root.{Root}
-use Rattle.wm_link.specs.declared.tree.Array.{Array}
-use Rattle.wm_link.specs.declared.tree.Converted.{Converted}
-use Rattle.wm_link.specs.declared.tree.Passed.{Passed}
-use Rattle.wm_link.specs.declared.tree.Passed.TheVariants as passed
-use Rattle.wm_link.specs.declared.tree.View.TheVariants as view
-use Rattle.wm_link.specs.declared.tree.Expr.{Expr}
-use Rattle.wm_link.specs.Code.{cells_in}
-use Rattle.wm_link.specs.Execution.{roots_in}
-use Rattle.wm_link.specs.Runs.{fresh_cells}
-use Rattle.wm_link.specs.State.{Here, root_of}
+use Rattle.wm_program.specs.declared.program.LocalInfo.{LocalInfo}
+use Rattle.wm_program.specs.declared.program.Root.{Root}
+use Rattle.wm_program.specs.declared.tree.Array.{Array}
+use Rattle.wm_program.specs.declared.tree.Converted.{Converted}
+use Rattle.wm_program.specs.declared.tree.Passed.{Passed}
+use Rattle.wm_program.specs.declared.tree.Passed.TheVariants as passed
+use Rattle.wm_program.specs.declared.tree.View.TheVariants as view
+use Rattle.wm_program.specs.declared.tree.Expr.{Expr}
+use Rattle.wm_program.specs.Code.{cells_in}
+use Rattle.wm_program.specs.Execution.{roots_in}
+use Rattle.wm_program.specs.Runs.{fresh_cells}
+use Rattle.wm_program.specs.State.{Here, root_of}
 use Rattle.wm_interp.specs.Parts.{passed_in}
 
 pub roots_value : (here : Here) (x : Converted Expr) (rest : List (Passed Expr)) → roots_in here (passed_in (passed.Value x ∷ rest)) ≡ roots_in here (passed_in rest)

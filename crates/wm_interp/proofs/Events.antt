@@ -1,9 +1,9 @@
 -- The search for the events of a site and cause.
 use Rattle.std.proofs.Common.{◌≡◌, ℕ, zero, suc, ◌+◌, ◌<◌, ◌≤◌, Bool, true, false, List, [], ◌∷◌, ◌++◌, length, take, drop, refl, sym, ap, ◌∙◌, arith, add-one}
 use Rattle.std.specs.Prelude.{slice_set, slice_index_or}
-use Rattle.wm_link.specs.declared.results.Cause.{Cause}
-use Rattle.wm_link.specs.declared.results.Event.{Event}
-use Rattle.wm_link.specs.Runs.{with_event, is_same}
+use Rattle.wm_program.specs.declared.results.Cause.{Cause}
+use Rattle.wm_program.specs.declared.results.Event.{Event}
+use Rattle.wm_program.specs.Runs.{with_event, is_same}
 use Rattle.wm_interp.specs.Events.{counted_again}
 
 skip : (site : ℕ) (cause : Cause) (e : Event) (es : List Event) → is_same site cause e ≡ false → with_event site cause (e ∷ es) ≡ e ∷ with_event site cause es

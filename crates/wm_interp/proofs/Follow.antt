@@ -5,19 +5,19 @@ use Rattle.wm_ops.specs.declared.words.Counted.{Counted}
 use Rattle.wm_ops.specs.declared.words.Counted.TheVariants as counted
 use Rattle.wm_ops.specs.declared.words.ControlWord.{ControlWord}
 use Rattle.wm_ops.specs.declared.words.ControlWord.TheVariants as word
-use Rattle.wm_link.specs.declared.program.Root.{Root}
-use Rattle.wm_link.specs.declared.program.Root.TheVariants as root
-use Rattle.wm_link.specs.declared.results.End.{End}
-use Rattle.wm_link.specs.declared.results.End.TheVariants as ends
-use Rattle.wm_link.specs.declared.tree.Scalar.{Scalar}
-use Rattle.wm_link.specs.declared.tree.Scalar.TheVariants as scalar
-use Rattle.wm_link.specs.Numbers.{plain_of}
-use Rattle.wm_link.specs.Tree.{Expression, Test, Target, Effect, Fresh, Tree, Variable, Item, Assign, Update, Evaluate, Count, Given, Filled, Blank, Listed, Skip, Seq, Block, Empty, Declare, Act, If, IfElse, For, While, Do, Break, Continue, Return, Leave}
-use Rattle.wm_link.specs.State.{State, Cells, Here, Place, Flag, At, Note, Counts, Entered, Turned, with_cells, place_of, number_at, set_number, put, noted, counting}
-use Rattle.wm_link.specs.Outcomes.{Got, Gives, Halts, Ran, Next, Broke, Continued, Returned, Halted, step_from, with_step, then_go, then_get, then_run, choose, turn_on, back}
-use Rattle.wm_link.specs.Code.{Code, Input, length_of, routine_at, function_of}
-use Rattle.wm_link.specs.Execution.{Calls, converted, computed, reach, evaluate, ask, find, fetch, convert_value, perform, perform_all, perform_step, own, make, make_all, turns, rounds, loop_turns, loop_rounds, exec}
-use Rattle.wm_link.specs.Runs.{weight_in, count_of, grouped, entered, call_at, call_root, initial, begun, object_length, with_inputs, Frame, run_init, run_frame, result_of, idle, then_frame, started}
+use Rattle.wm_program.specs.declared.program.Root.{Root}
+use Rattle.wm_program.specs.declared.program.Root.TheVariants as root
+use Rattle.wm_program.specs.declared.results.End.{End}
+use Rattle.wm_program.specs.declared.results.End.TheVariants as ends
+use Rattle.wm_program.specs.declared.tree.Scalar.{Scalar}
+use Rattle.wm_program.specs.declared.tree.Scalar.TheVariants as scalar
+use Rattle.wm_program.specs.Numbers.{plain_of}
+use Rattle.wm_program.specs.Tree.{Expression, Test, Target, Effect, Fresh, Tree, Variable, Item, Assign, Update, Evaluate, Count, Given, Filled, Blank, Listed, Skip, Seq, Block, Empty, Declare, Act, If, IfElse, For, While, Do, Break, Continue, Return, Leave}
+use Rattle.wm_program.specs.State.{State, Cells, Here, Place, Flag, At, Note, Counts, Entered, Turned, with_cells, place_of, number_at, set_number, put, noted, counting}
+use Rattle.wm_program.specs.Outcomes.{Got, Gives, Halts, Ran, Next, Broke, Continued, Returned, Halted, step_from, with_step, then_go, then_get, then_run, choose, turn_on, back}
+use Rattle.wm_program.specs.Code.{Code, Input, length_of, routine_at, function_of}
+use Rattle.wm_program.specs.Execution.{Calls, converted, computed, reach, evaluate, ask, find, fetch, convert_value, perform, perform_all, perform_step, own, make, make_all, turns, rounds, loop_turns, loop_rounds, exec}
+use Rattle.wm_program.specs.Runs.{weight_in, count_of, grouped, entered, call_at, call_root, initial, begun, object_length, with_inputs, Frame, run_init, run_frame, result_of, idle, then_frame, started}
 use Rattle.wm_interp.specs.declared.halt.Flow.{Flow}
 use Rattle.wm_interp.specs.declared.halt.Flow.TheVariants as flow
 use Rattle.wm_interp.specs.declared.halt.Location.{Location}

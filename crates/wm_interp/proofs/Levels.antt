@@ -3,32 +3,32 @@ use Rattle.std.proofs.Common.{◌≡◌, ℕ, ℤ, Bool, Option, Some, None, Lis
 use Rattle.std.specs.Option.{option_map_or}
 use Rattle.wm_ops.specs.declared.operators.Op.{Op}
 use Rattle.wm_ops.specs.declared.operators.Width.{Width}
-use Rattle.wm_link.specs.declared.tree.Scalar as scalar_type
-use Rattle.wm_link.specs.declared.tree.Array.{Array}
-use Rattle.wm_link.specs.declared.tree.Converted.{Converted}
-use Rattle.wm_link.specs.declared.tree.Link.{Link}
-use Rattle.wm_link.specs.declared.tree.Passed.{Passed}
-use Rattle.wm_link.specs.declared.tree.Passed.TheVariants as passed
-use Rattle.wm_link.specs.declared.tree.View.TheVariants as view
-use Rattle.wm_link.specs.declared.tree.Call as call_type
-use Rattle.wm_link.specs.declared.tree.Expr.{Expr}
-use Rattle.wm_link.specs.declared.tree.Expr.TheOpen.{Expr-F}
-use Rattle.wm_link.specs.declared.tree.Expr.TheFolds.{fold-roll-Expr}
-use Rattle.wm_link.specs.declared.tree.Expr.TheVariants.{Constant, Scalar, Element, Operator, Call, Chain, Negate, Plus, Cast, rolls-Constant, rolls-Scalar, rolls-Element, rolls-Operator, rolls-Call, rolls-Chain, rolls-Negate, rolls-Plus, rolls-Cast}
-use Rattle.wm_link.specs.declared.tree.Comparison.{Comparison}
-use Rattle.wm_link.specs.declared.tree.Condition.{Condition}
-use Rattle.wm_link.specs.declared.tree.Condition.TheOpen.{Condition-F}
-use Rattle.wm_link.specs.declared.tree.Condition.TheFolds.{fold-roll-Condition}
-use Rattle.wm_link.specs.declared.tree.Condition.TheVariants.{Or, And, Not, Compare, Truth, rolls-Or, rolls-And, rolls-Not, rolls-Compare, rolls-Truth}
-use Rattle.wm_link.specs.declared.tree.Simple as simple_type
-use Rattle.wm_link.specs.declared.tree.Declared.{Declared}
-use Rattle.wm_link.specs.declared.tree.Otherwise.{Otherwise}
-use Rattle.wm_link.specs.declared.tree.Statement.{Statement}
-use Rattle.wm_link.specs.declared.tree.Statement.TheOpen.{Statement-F}
-use Rattle.wm_link.specs.declared.tree.Statement.TheFolds.{fold-roll-Statement}
-use Rattle.wm_link.specs.declared.tree.Statement.TheVariants.{Block, Empty, Declare, Simple, If, For, While, Do, Break, Continue, Return, rolls-Block, rolls-Empty, rolls-Declare, rolls-Simple, rolls-If, rolls-For, rolls-While, rolls-Do, rolls-Break, rolls-Continue, rolls-Return}
-use Rattle.wm_link.specs.Tree as tree
-use Rattle.wm_link.specs.Trees.{expression_of, expression_step, values_of, arguments_of, chain_of, test_of, test_step, either_of, both_of, effect_of, fresh_of, tree_of, tree_step, return_of}
+use Rattle.wm_program.specs.declared.tree.Scalar as scalar_type
+use Rattle.wm_program.specs.declared.tree.Array.{Array}
+use Rattle.wm_program.specs.declared.tree.Converted.{Converted}
+use Rattle.wm_program.specs.declared.tree.Link.{Link}
+use Rattle.wm_program.specs.declared.tree.Passed.{Passed}
+use Rattle.wm_program.specs.declared.tree.Passed.TheVariants as passed
+use Rattle.wm_program.specs.declared.tree.View.TheVariants as view
+use Rattle.wm_program.specs.declared.tree.Call as call_type
+use Rattle.wm_program.specs.declared.tree.Expr.{Expr}
+use Rattle.wm_program.specs.declared.tree.Expr.TheOpen.{Expr-F}
+use Rattle.wm_program.specs.declared.tree.Expr.TheFolds.{fold-roll-Expr}
+use Rattle.wm_program.specs.declared.tree.Expr.TheVariants.{Constant, Scalar, Element, Operator, Call, Chain, Negate, Plus, Cast, rolls-Constant, rolls-Scalar, rolls-Element, rolls-Operator, rolls-Call, rolls-Chain, rolls-Negate, rolls-Plus, rolls-Cast}
+use Rattle.wm_program.specs.declared.tree.Comparison.{Comparison}
+use Rattle.wm_program.specs.declared.tree.Condition.{Condition}
+use Rattle.wm_program.specs.declared.tree.Condition.TheOpen.{Condition-F}
+use Rattle.wm_program.specs.declared.tree.Condition.TheFolds.{fold-roll-Condition}
+use Rattle.wm_program.specs.declared.tree.Condition.TheVariants.{Or, And, Not, Compare, Truth, rolls-Or, rolls-And, rolls-Not, rolls-Compare, rolls-Truth}
+use Rattle.wm_program.specs.declared.tree.Simple as simple_type
+use Rattle.wm_program.specs.declared.tree.Declared.{Declared}
+use Rattle.wm_program.specs.declared.tree.Otherwise.{Otherwise}
+use Rattle.wm_program.specs.declared.tree.Statement.{Statement}
+use Rattle.wm_program.specs.declared.tree.Statement.TheOpen.{Statement-F}
+use Rattle.wm_program.specs.declared.tree.Statement.TheFolds.{fold-roll-Statement}
+use Rattle.wm_program.specs.declared.tree.Statement.TheVariants.{Block, Empty, Declare, Simple, If, For, While, Do, Break, Continue, Return, rolls-Block, rolls-Empty, rolls-Declare, rolls-Simple, rolls-If, rolls-For, rolls-While, rolls-Do, rolls-Break, rolls-Continue, rolls-Return}
+use Rattle.wm_program.specs.Tree as tree
+use Rattle.wm_program.specs.Trees.{expression_of, expression_step, values_of, arguments_of, chain_of, test_of, test_step, either_of, both_of, effect_of, fresh_of, tree_of, tree_step, return_of}
 use Rattle.wm_interp.specs.Parts.{plain_value, plain_link, plain_passed, operands_of, passed_in, tree_all}
 
 pub of_constant : (z : ℤ) → expression_of (Constant z) ≡ tree.Constant z

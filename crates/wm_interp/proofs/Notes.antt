@@ -3,10 +3,10 @@ use Rattle.std.proofs.Common.{◌≡◌, ℕ, ◌+◌, Bool, true, false, List, 
 use Rattle.wm_ops.specs.declared.words.Counted.{Counted}
 use Rattle.wm_ops.specs.declared.words.Counted.TheVariants as counted
 use Rattle.wm_ops.specs.declared.words.ControlWord.{ControlWord}
-use Rattle.wm_link.specs.declared.results.Cause.{Cause}
-use Rattle.wm_link.specs.declared.results.Event.{Event}
-use Rattle.wm_link.specs.State.{State, Note, Counts, Evaluated, Failed, Entered, Turned, noted, counting, failed_if, flagged}
-use Rattle.wm_link.specs.Runs.{weight_in, count_of, grouped, with_event}
+use Rattle.wm_program.specs.declared.results.Cause.{Cause}
+use Rattle.wm_program.specs.declared.results.Event.{Event}
+use Rattle.wm_program.specs.State.{State, Note, Counts, Evaluated, Failed, Entered, Turned, noted, counting, failed_if, flagged}
+use Rattle.wm_program.specs.Runs.{weight_in, count_of, grouped, with_event}
 use Rattle.wm_interp.specs.Held.{Held, with_count, failed_on, failed_if_on, flagged_on}
 use Rattle.wm_interp.specs.Projected.{bare, seen}
 

@@ -1,8 +1,8 @@
 -- The locals of a function of a program.
 use Rattle.std.proofs.Common.{◌≡◌, ℕ, zero, suc, List, [], ◌∷◌, map, Option, Some, None, refl}
 use Rattle.std.specs.Prelude.{slice_get, slice_index_or}
-use Rattle.wm_link.specs.declared.program.FunctionInfo.{FunctionInfo}
-use Rattle.wm_link.specs.Code.{Routine, routine_of, no_routine}
+use Rattle.wm_program.specs.declared.program.FunctionInfo.{FunctionInfo}
+use Rattle.wm_program.specs.Code.{Routine, routine_of, no_routine}
 
 pub routine_there : (functions : List FunctionInfo) (k : ℕ) (info : FunctionInfo) → slice_get functions k ≡ Some info → slice_index_or (map routine_of functions) k no_routine ≡ routine_of info
 routine_there [] k info h = cc

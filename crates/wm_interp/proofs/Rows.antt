@@ -2,7 +2,7 @@
 use Rattle.std.proofs.Common.{◌≡◌, ℕ, zero, suc, ◌-◌, ◌<◌, ℤ, pos, List, [], ◌∷◌, ◌++◌, map, replicate, length, Option, Some, Vec, Global, refl, sym, ap, ◌∙◌, arith}
 use Rattle.std.specs.Prelude.{slice_set, slice_index_or}
 use Rattle.std.proofs.lemmas.List.{map-set}
-use Rattle.wm_link.specs.Execution.{listed}
+use Rattle.wm_program.specs.Execution.{listed}
 use Rattle.wm_interp.specs.Rows.{rows_of}
 
 pub rows_set : (rows : List (Vec (Option ℤ) Global)) (k : ℕ) (row : Vec (Option ℤ) Global) → rows_of (slice_set rows k row) ≡ slice_set (rows_of rows) k row.items

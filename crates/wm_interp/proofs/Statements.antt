@@ -3,19 +3,19 @@ use Rattle.std.proofs.Common.{◌≡◌, ℕ, zero, suc, ◌+◌, ◌-◌, ◌<�
 use Rattle.std.specs.Option.{option_map_or}
 use Rattle.wm_ops.specs.declared.words.Counted.{Counted}
 use Rattle.wm_ops.specs.declared.words.ControlWord.TheVariants as word
-use Rattle.wm_link.specs.declared.results.End.TheVariants as ends
-use Rattle.wm_link.specs.declared.tree.Converted.{Converted}
-use Rattle.wm_link.specs.declared.tree.Expr.{Expr}
-use Rattle.wm_link.specs.declared.tree.Condition.{Condition}
-use Rattle.wm_link.specs.declared.tree.Simple as simple_type
-use Rattle.wm_link.specs.declared.tree.Declared.{Declared}
-use Rattle.wm_link.specs.declared.tree.Otherwise.{Otherwise}
-use Rattle.wm_link.specs.declared.tree.Statement.{Statement}
-use Rattle.wm_link.specs.declared.tree.Statement.TheVariants as statement
-use Rattle.wm_link.specs.Tree.{Always}
-use Rattle.wm_link.specs.Trees.{expression_of, test_of, tree_of, effect_of, fresh_of}
-use Rattle.wm_link.specs.State.{Here}
-use Rattle.wm_link.specs.Code.{Code, routine_at}
+use Rattle.wm_program.specs.declared.results.End.TheVariants as ends
+use Rattle.wm_program.specs.declared.tree.Converted.{Converted}
+use Rattle.wm_program.specs.declared.tree.Expr.{Expr}
+use Rattle.wm_program.specs.declared.tree.Condition.{Condition}
+use Rattle.wm_program.specs.declared.tree.Simple as simple_type
+use Rattle.wm_program.specs.declared.tree.Declared.{Declared}
+use Rattle.wm_program.specs.declared.tree.Otherwise.{Otherwise}
+use Rattle.wm_program.specs.declared.tree.Statement.{Statement}
+use Rattle.wm_program.specs.declared.tree.Statement.TheVariants as statement
+use Rattle.wm_program.specs.Tree.{Always}
+use Rattle.wm_program.specs.Trees.{expression_of, test_of, tree_of, effect_of, fresh_of}
+use Rattle.wm_program.specs.State.{Here}
+use Rattle.wm_program.specs.Code.{Code, routine_at}
 use Rattle.wm_interp.specs.declared.halt.Flow.{Flow}
 use Rattle.wm_interp.specs.declared.halt.Flow.TheVariants.{Next, Broke, Continued, Returned}
 use Rattle.wm_interp.specs.Held.{Held, Gets, Has, Ends, then_on, go_on, step_on}

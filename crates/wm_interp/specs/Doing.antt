@@ -5,17 +5,17 @@ use Rattle.wm_ops.specs.declared.operators.Width.{Width}
 use Rattle.wm_ops.specs.declared.words.Counted.{Counted}
 use Rattle.wm_ops.specs.declared.words.Counted.TheVariants as counted
 use Rattle.wm_ops.specs.declared.words.ControlWord.TheVariants as word
-use Rattle.wm_link.specs.declared.program.Root.{Root}
-use Rattle.wm_link.specs.declared.program.Root.TheVariants as root
-use Rattle.wm_link.specs.declared.results.End.TheVariants as ends
-use Rattle.wm_link.specs.declared.tree.Scalar.{Scalar}
-use Rattle.wm_link.specs.declared.tree.Scalar.TheVariants as scalar
-use Rattle.wm_link.specs.Numbers.{plain_of, compares, clamp_to}
-use Rattle.wm_link.specs.Tree.{Expression, Test, Target, Effect, Fresh, Tree, Always, Either, Both, Not, Compare, Truth, Variable, Item, Assign, Update, Evaluate, Count, Given, Filled, Blank, Listed, Skip, Seq, Block, Empty, Declare, Act, If, IfElse, For, While, Do, Break, Continue, Return, Leave}
-use Rattle.wm_link.specs.State.{State, Cells, Here, Place, At, with_cells, set_number, number_at}
-use Rattle.wm_link.specs.Execution.{take_fill, rest_of, listed}
-use Rattle.wm_link.specs.Code.{Code, Routine, routine_at}
-use Rattle.wm_link.specs.Runs.{entered}
+use Rattle.wm_program.specs.declared.program.Root.{Root}
+use Rattle.wm_program.specs.declared.program.Root.TheVariants as root
+use Rattle.wm_program.specs.declared.results.End.TheVariants as ends
+use Rattle.wm_program.specs.declared.tree.Scalar.{Scalar}
+use Rattle.wm_program.specs.declared.tree.Scalar.TheVariants as scalar
+use Rattle.wm_program.specs.Numbers.{plain_of, compares, clamp_to}
+use Rattle.wm_program.specs.Tree.{Expression, Test, Target, Effect, Fresh, Tree, Always, Either, Both, Not, Compare, Truth, Variable, Item, Assign, Update, Evaluate, Count, Given, Filled, Blank, Listed, Skip, Seq, Block, Empty, Declare, Act, If, IfElse, For, While, Do, Break, Continue, Return, Leave}
+use Rattle.wm_program.specs.State.{State, Cells, Here, Place, At, with_cells, set_number, number_at}
+use Rattle.wm_program.specs.Execution.{take_fill, rest_of, listed}
+use Rattle.wm_program.specs.Code.{Code, Routine, routine_at}
+use Rattle.wm_program.specs.Runs.{entered}
 use Rattle.wm_interp.specs.declared.halt.Flow.{Flow}
 use Rattle.wm_interp.specs.declared.halt.Flow.TheVariants.{Next, Broke, Continued, Returned}
 use Rattle.wm_interp.specs.declared.halt.Location.{Location}

@@ -1,6 +1,6 @@
 -- Failures that are grouped.
 use Rattle.std.specs.Prelude.{suc}
-use Rattle.wm_link.specs.declared.results.Event.{Event}
+use Rattle.wm_program.specs.declared.results.Event.{Event}
 
 -- once more
 abbrev pub counted_again : Event → Event

@@ -1,13 +1,13 @@
 -- What a machine does with a list of frames.
 use Rattle.std.specs.Prelude.{ℕ, List, [], ◌∷◌, length, map, take, drop, replicate, ℤ, pos, Option, Some, None}
 use Rattle.wm_ops.specs.declared.words.Counted.{Counted}
-use Rattle.wm_link.specs.declared.program.Root.TheVariants as root
-use Rattle.wm_link.specs.declared.results.End.{End}
-use Rattle.wm_link.specs.declared.results.End.TheVariants.{Ended}
-use Rattle.wm_link.specs.declared.results.FrameResult.{FrameResult}
-use Rattle.wm_link.specs.State.{State}
-use Rattle.wm_link.specs.Code.{Code, function_of}
-use Rattle.wm_link.specs.Runs.{Frame, initial, with_inputs}
+use Rattle.wm_program.specs.declared.program.Root.TheVariants as root
+use Rattle.wm_program.specs.declared.results.End.{End}
+use Rattle.wm_program.specs.declared.results.End.TheVariants.{Ended}
+use Rattle.wm_program.specs.declared.results.FrameResult.{FrameResult}
+use Rattle.wm_program.specs.State.{State}
+use Rattle.wm_program.specs.Code.{Code, function_of}
+use Rattle.wm_program.specs.Runs.{Frame, initial, with_inputs}
 use Rattle.wm_interp.specs.Held.{Held, Gets, Has, Ends}
 use Rattle.wm_interp.specs.Doing.{call_on}
 

@@ -4,12 +4,12 @@ use Rattle.std.specs.Prelude.{◌≡◌, ℕ, zero, suc, ◌+◌, Bool, true, fa
 use Rattle.wm_ops.specs.declared.words.Counted.{Counted}
 use Rattle.wm_ops.specs.declared.words.Counted.TheVariants as counted
 use Rattle.wm_ops.specs.declared.words.ControlWord.{ControlWord}
-use Rattle.wm_link.specs.declared.results.Cause.{Cause}
-use Rattle.wm_link.specs.declared.results.End.{End}
-use Rattle.wm_link.specs.declared.results.End.TheVariants as ends
-use Rattle.wm_link.specs.declared.results.Event.{Event}
-use Rattle.wm_link.specs.State.{State, Place, number_at, put, flagged, set_number}
-use Rattle.wm_link.specs.Runs.{weight_in, with_event}
+use Rattle.wm_program.specs.declared.results.Cause.{Cause}
+use Rattle.wm_program.specs.declared.results.End.{End}
+use Rattle.wm_program.specs.declared.results.End.TheVariants as ends
+use Rattle.wm_program.specs.declared.results.Event.{Event}
+use Rattle.wm_program.specs.State.{State, Place, number_at, put, flagged, set_number}
+use Rattle.wm_program.specs.Runs.{weight_in, with_event}
 use Rattle.wm_interp.specs.declared.halt.Halt.{Halt}
 use Rattle.wm_interp.specs.declared.halt.Halt.TheVariants.{Over, Refused}
 use Rattle.wm_interp.specs.declared.halt.Flow.{Flow}

@@ -1,14 +1,14 @@
 -- What the machine does, part by part of a declared tree.
 use Rattle.std.specs.Prelude.{ℕ, Bool, true, false, not, List, [], ◌∷◌, map, ℤ, pos, Option, Some, None}
 use Rattle.std.specs.Borrow.{Bor}
-use Rattle.wm_link.specs.declared.tree.Converted.{Converted}
-use Rattle.wm_link.specs.declared.tree.View.TheVariants as view
-use Rattle.wm_link.specs.declared.tree.Passed.{Passed}
-use Rattle.wm_link.specs.declared.tree.Passed.TheVariants as passed
-use Rattle.wm_link.specs.declared.tree.Expr.{Expr}
-use Rattle.wm_link.specs.declared.tree.Condition.{Condition}
-use Rattle.wm_link.specs.Tree.{Test, Always}
-use Rattle.wm_link.specs.Trees.{expression_of, test_of, tree_of, effect_of}
+use Rattle.wm_program.specs.declared.tree.Converted.{Converted}
+use Rattle.wm_program.specs.declared.tree.View.TheVariants as view
+use Rattle.wm_program.specs.declared.tree.Passed.{Passed}
+use Rattle.wm_program.specs.declared.tree.Passed.TheVariants as passed
+use Rattle.wm_program.specs.declared.tree.Expr.{Expr}
+use Rattle.wm_program.specs.declared.tree.Condition.{Condition}
+use Rattle.wm_program.specs.Tree.{Test, Always}
+use Rattle.wm_program.specs.Trees.{expression_of, test_of, tree_of, effect_of}
 use Rattle.wm_interp.specs.declared.halt.Flow.{Flow}
 use Rattle.wm_interp.specs.declared.run.Loop.{Loop}
 use Rattle.wm_interp.specs.declared.run.Loop.TheVariants.{Tested, Do}

@@ -1,16 +1,16 @@
 -- The plain parts of declared ones, that a tree has more than one of.
 use Rattle.std.specs.Prelude.{ℕ, ℤ, List, map}
-use Rattle.wm_link.specs.declared.tree.Converted.{Converted}
-use Rattle.wm_link.specs.declared.tree.Link.{Link}
-use Rattle.wm_link.specs.declared.tree.View.{View}
-use Rattle.wm_link.specs.declared.tree.View.TheVariants as view
-use Rattle.wm_link.specs.declared.tree.Passed.{Passed}
-use Rattle.wm_link.specs.declared.tree.Passed.TheVariants as passed
-use Rattle.wm_link.specs.declared.tree.Expr.{Expr}
-use Rattle.wm_link.specs.declared.tree.Condition.{Condition}
-use Rattle.wm_link.specs.declared.tree.Statement.{Statement}
-use Rattle.wm_link.specs.Tree.{Expression, Arguments, Test, Tree}
-use Rattle.wm_link.specs.Trees.{expression_of, test_of, tree_of, values_of, arguments_of, all_of}
+use Rattle.wm_program.specs.declared.tree.Converted.{Converted}
+use Rattle.wm_program.specs.declared.tree.Link.{Link}
+use Rattle.wm_program.specs.declared.tree.View.{View}
+use Rattle.wm_program.specs.declared.tree.View.TheVariants as view
+use Rattle.wm_program.specs.declared.tree.Passed.{Passed}
+use Rattle.wm_program.specs.declared.tree.Passed.TheVariants as passed
+use Rattle.wm_program.specs.declared.tree.Expr.{Expr}
+use Rattle.wm_program.specs.declared.tree.Condition.{Condition}
+use Rattle.wm_program.specs.declared.tree.Statement.{Statement}
+use Rattle.wm_program.specs.Tree.{Expression, Arguments, Test, Tree}
+use Rattle.wm_program.specs.Trees.{expression_of, test_of, tree_of, values_of, arguments_of, all_of}
 
 abbrev pub plain_value : Converted Expr → Converted Expression
 plain_value x = record { value = expression_of x.value; narrowing = x.narrowing }

@@ -1,9 +1,9 @@
 -- What is held of a state: the count and the grouped failures in place of its log.
 use Rattle.std.specs.Prelude.{◌≡◌, ℕ, [], ℤ, Option, Some}
 use Rattle.wm_ops.specs.declared.words.Counted.{Counted}
-use Rattle.wm_link.specs.State.{State}
-use Rattle.wm_link.specs.Outcomes.{Got, Gives, Halts, Ran, Next, Broke, Continued, Returned, Halted}
-use Rattle.wm_link.specs.Runs.{count_of, grouped}
+use Rattle.wm_program.specs.State.{State}
+use Rattle.wm_program.specs.Outcomes.{Got, Gives, Halts, Ran, Next, Broke, Continued, Returned, Halted}
+use Rattle.wm_program.specs.Runs.{count_of, grouped}
 use Rattle.wm_interp.specs.declared.halt.Flow.{Flow}
 use Rattle.wm_interp.specs.declared.halt.Flow.TheVariants as flow
 use Rattle.wm_interp.specs.Held.{Held, Gets, Has, Ends}

@@ -1,14 +1,14 @@
 -- What the machine's own types show.
 use Rattle.std.specs.Prelude.{ℕ, ℤ, replicate, Vec, List, [], ◌∷◌, Option, Some, None}
 use Rattle.wm_ops.specs.declared.words.Counted.{Counted}
-use Rattle.wm_link.specs.declared.program.LocalInfo.{LocalInfo}
-use Rattle.wm_link.specs.Code.{code_of, cells_in}
-use Rattle.wm_link.specs.State.{Here}
+use Rattle.wm_program.specs.declared.program.LocalInfo.{LocalInfo}
+use Rattle.wm_program.specs.Code.{code_of, cells_in}
+use Rattle.wm_program.specs.State.{Here}
 use Rattle.wm_weights.specs.Table.{weight_of}
 use Rattle.std.specs.declared.alloc.Global.{Global}
-use Rattle.wm_link.specs.declared.tree.Call.{Call}
-use Rattle.wm_link.specs.declared.tree.Expr.{Expr}
-use Rattle.wm_link.specs.Execution.{there}
+use Rattle.wm_program.specs.declared.tree.Call.{Call}
+use Rattle.wm_program.specs.declared.tree.Expr.{Expr}
+use Rattle.wm_program.specs.Execution.{there}
 use Rattle.wm_interp.specs.Parts.{passed_in}
 use Rattle.wm_interp.specs.Held.{Held, Gets, then_on}
 use Rattle.wm_interp.specs.Going.{Setting, gather_on}

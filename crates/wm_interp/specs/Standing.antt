@@ -1,9 +1,9 @@
 -- Where a machine stands.
 use Rattle.std.specs.Prelude.{ℕ, List, Option, Some, None}
 use Rattle.wm_ops.specs.declared.words.Counted.{Counted}
-use Rattle.wm_link.specs.declared.inputs.Inputs.{Inputs}
-use Rattle.wm_link.specs.Code.{Code, code_of}
-use Rattle.wm_link.specs.Runs.{Frame}
+use Rattle.wm_program.specs.declared.inputs.Inputs.{Inputs}
+use Rattle.wm_program.specs.Code.{Code, code_of}
+use Rattle.wm_program.specs.Runs.{Frame}
 use Rattle.wm_weights.specs.Table.{weight_of}
 use Rattle.wm_interp.specs.declared.frames.Ran.{Ran}
 use Rattle.wm_interp.specs.declared.machine.Machine.{Machine}

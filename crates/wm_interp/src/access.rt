@@ -1,8 +1,8 @@
 // What names mean in an instance, and the cells that they stand for.
 ghost use Rattle.std.specs.Prelude.{◌≡◌, [], slice_index_or, slice_set, replicate, OnOk, IfOk};
-ghost use Rattle.wm_link.specs.Code as codes;
-ghost use Rattle.wm_link.specs.Execution as execution;
-ghost use Rattle.wm_link.specs.State as states;
+ghost use Rattle.wm_program.specs.Code as codes;
+ghost use Rattle.wm_program.specs.Execution as execution;
+ghost use Rattle.wm_program.specs.State as states;
 ghost use Rattle.wm_interp.specs.Going.{place_seen, offset_on, named_on};
 ghost use Rattle.wm_interp.specs.Doing as doing;
 ghost use Rattle.wm_interp.specs.Seen.{held_of, here_of, setting_of};
@@ -12,7 +12,7 @@ use crate::memory::Memory;
 use crate::numbers::clamp_to;
 use crate::scene::Scene;
 use crate::store::Store;
-use wm_link::{Array, Program, Root, Scalar};
+use wm_program::{Array, Program, Root, Scalar};
 use wm_ops::Width;
 
 /// A local of the scene's instance.

@@ -1,8 +1,8 @@
 // How a call begins: what the views of the called function look into, and the cells of its locals.
 ghost use Rattle.std.specs.Prelude.{◌≡◌, [], ◌∷◌, ◌++◌, OnOk, IfOk};
-ghost use Rattle.wm_link.specs.Code as codes;
-ghost use Rattle.wm_link.specs.Execution as execution;
-ghost use Rattle.wm_link.specs.Runs.{fresh_cells};
+ghost use Rattle.wm_program.specs.Code as codes;
+ghost use Rattle.wm_program.specs.Execution as execution;
+ghost use Rattle.wm_program.specs.Runs.{fresh_cells};
 ghost use Rattle.wm_interp.specs.Doing.{entered_on, back_on};
 ghost use Rattle.wm_interp.specs.Parts.{passed_in};
 ghost use Rattle.wm_interp.specs.Seen.{held_of, here_of, first_cells};
@@ -13,7 +13,7 @@ use crate::memory::Memory;
 use crate::scene::Scene;
 use crate::store::Store;
 use std::alloc::Global;
-use wm_link::{Expr, LocalInfo, Passed, Root, View};
+use wm_program::{Expr, LocalInfo, Passed, Root, View};
 
 /// What the view parameters of a called function look into.
 #[tactic(auto, using(crate::proofs::Calling::roots_value, crate::proofs::Calling::roots_whole, crate::proofs::Calling::roots_from))]

@@ -1,6 +1,6 @@
 // The fill list: numbers that automatic scalars without a value take.
 ghost use Rattle.std.specs.Prelude.{◌≡◌, drop};
-ghost use Rattle.wm_link.specs.Execution.{take_fill, rest_of};
+ghost use Rattle.wm_program.specs.Execution.{take_fill, rest_of};
 
 use std::marker::Model;
 

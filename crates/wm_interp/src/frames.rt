@@ -1,7 +1,7 @@
 // The runs of a machine: of init behind the static values, and of a frame.
 ghost use Rattle.std.specs.Prelude.{◌≡◌, [], ◌∷◌, ◌++◌, map, take, drop, replicate, IfOk, OnOk};
-ghost use Rattle.wm_link.specs.Code.{code_of};
-ghost use Rattle.wm_link.specs.Runs as runs;
+ghost use Rattle.wm_program.specs.Code.{code_of};
+ghost use Rattle.wm_program.specs.Runs as runs;
 ghost use Rattle.wm_weights.specs.Table.{weight_of};
 ghost use Rattle.wm_interp.specs.Frames as frames;
 ghost use Rattle.wm_interp.specs.Seen.{held_of};
@@ -15,7 +15,7 @@ use crate::run::invoke;
 use crate::scene::Scene;
 use crate::store::Store;
 use std::alloc::Global;
-use wm_link::{End, Event, FrameResult, InputInfo, Inputs, ObjectInfo, Program, Root};
+use wm_program::{End, Event, FrameResult, InputInfo, Inputs, ObjectInfo, Program, Root};
 use wm_ops::{List, NoMemory};
 use wm_weights::Weights;
 

@@ -2,7 +2,7 @@
 ghost use Rattle.std.specs.Prelude.{◌≡◌};
 ghost use Rattle.wm_interp.specs.Doing.{is_next, ended_by};
 
-use wm_link::{End, Root};
+use wm_program::{End, Root};
 
 /// Why the machine cannot go on.
 #[derive(Clone, Copy, Debug, PartialEq, Eq)]

@@ -15,4 +15,4 @@ mod scene;
 mod store;
 
 pub use machine::Machine;
-pub use wm_link::{Cause, End, Event, FrameResult};
+pub use wm_program::{Cause, End, Event, FrameResult};

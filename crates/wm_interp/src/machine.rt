@@ -1,16 +1,16 @@
 // A machine that runs a program, frame after frame.
 ghost use Rattle.std.specs.Prelude.{◌≡◌, ℤ, [], IfOk, OnOk, OnErr, IsErr, MatchOption, IsSomeAnd, slice_index_or};
-ghost use Rattle.wm_link.specs.Code.{code_of};
+ghost use Rattle.wm_program.specs.Code.{code_of};
 ghost use Rattle.wm_weights.specs.Table.{weight_of};
-ghost use Rattle.wm_link.specs.Outcomes.{Got};
-ghost use Rattle.wm_link.specs.Runs.{result_of, started, then_frame};
+ghost use Rattle.wm_program.specs.Outcomes.{Got};
+ghost use Rattle.wm_program.specs.Runs.{result_of, started, then_frame};
 ghost use Rattle.wm_interp.specs.Frames.{started_on, frame_on, shown_by};
 ghost use Rattle.wm_interp.specs.Projected.{Stands};
 ghost use Rattle.wm_interp.specs.Standing.{code_in, weights_in, stand_of, ran_seen, frame_with};
 
 use crate::frames::{Ran, first_run, next_run, shown};
 use std::alloc::Global;
-use wm_link::{FrameResult, Inputs, Program};
+use wm_program::{FrameResult, Inputs, Program};
 use wm_ops::NoMemory;
 use wm_weights::Weights;
 

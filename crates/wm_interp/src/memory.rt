@@ -1,8 +1,8 @@
 // What a machine holds while it runs.
 ghost use Rattle.std.specs.Prelude.{◌≡◌, OnOk, IfOk};
-ghost use Rattle.wm_link.specs.Runs.{with_event, is_same, cause_number};
+ghost use Rattle.wm_program.specs.Runs.{with_event, is_same, cause_number};
 ghost use Rattle.wm_interp.specs.Events.{counted_again};
-ghost use Rattle.wm_link.specs.Execution.{take_fill, rest_of};
+ghost use Rattle.wm_program.specs.Execution.{take_fill, rest_of};
 ghost use Rattle.wm_interp.specs.Held.{Goes, step_on, with_count, failed_on};
 ghost use Rattle.wm_interp.specs.Seen.{held_of};
 ghost use Rattle.wm_interp.specs.Frames.{begun_on};
@@ -10,7 +10,7 @@ ghost use Rattle.wm_interp.specs.Frames.{begun_on};
 use crate::fill::Fill;
 use crate::halt::{Halt, Refusal};
 use crate::store::Store;
-use wm_link::{Cause, End, Event};
+use wm_program::{Cause, End, Event};
 
 /// The cells of all variables, the flag `Overflow`, the rest of the fill list, the steps that are left, the count and the
 /// failures.

@@ -4,10 +4,10 @@ ghost use Rattle.wm_ops.specs.Arguments.{HasWidth, ArgsFit, FitsAt};
 ghost use Rattle.wm_ops.specs.Clamping.{leaves16, leaves32};
 ghost use Rattle.wm_ops.specs.Parts.{low_half};
 ghost use Rattle.wm_numbers.specs.Within.{IsWord16, IsWord32};
-ghost use Rattle.wm_link.specs.Numbers.{plain_of, compares, cast_to, clamp_to, is_outside, natural};
+ghost use Rattle.wm_program.specs.Numbers.{plain_of, compares, cast_to, clamp_to, is_outside, natural};
 
 use crate::halt::Refusal;
-use wm_link::{Comparison, PlainMark};
+use wm_program::{Comparison, PlainMark};
 use wm_numbers::{MAX_16, MAX_32, MIN_16, MIN_32, clamp16, clamp32, floor_shift};
 use wm_ops::{Op, Width, arg_width, arity};
 

@@ -1,6 +1,6 @@
 // Single operations: counts, tests at a site, operators, and cells that are read.
 ghost use Rattle.std.specs.Prelude.{◌≡◌, [], ◌∷◌, neg_ℤ, OnOk, IfOk};
-ghost use Rattle.wm_link.specs.Numbers as numbers;
+ghost use Rattle.wm_program.specs.Numbers as numbers;
 ghost use Rattle.wm_interp.specs.declared.halt.Halt as halts;
 ghost use Rattle.wm_interp.specs.Held.{Goes, Gets, tested_on, flagged_on, failed_if_on};
 ghost use Rattle.wm_interp.specs.Going.{counted_on, counting_on, converted_on, computed_on, operate_on, read_on, reach_on, element_on, view_on};
@@ -11,7 +11,7 @@ use crate::halt::{Halt, Location, Refusal};
 use crate::memory::Memory;
 use crate::numbers::{args_fit, is_outside, leaves16, leaves32, natural, plain};
 use crate::scene::Scene;
-use wm_link::{Array, Cause, End, PlainMark};
+use wm_program::{Array, Cause, End, PlainMark};
 use wm_ops::{ControlWord, Counted, Op, Outcome, apply};
 
 /// Counts a word.

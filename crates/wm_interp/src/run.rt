@@ -1,8 +1,8 @@
 // Expressions, conditions, statements and calls: a recursion over the trees of the functions.
 ghost use Rattle.std.specs.Prelude.{◌≡◌, ◌+◌, [], ◌∷◌, ◌++◌, map, slice_get, IfOk, OnOk};
-ghost use Rattle.wm_link.specs.Trees.{expression_of, test_of, tree_of, effect_of, target_of, fresh_of};
-ghost use Rattle.wm_link.specs.Code as codes;
-ghost use Rattle.wm_link.specs.Numbers.{plain_of};
+ghost use Rattle.wm_program.specs.Trees.{expression_of, test_of, tree_of, effect_of, target_of, fresh_of};
+ghost use Rattle.wm_program.specs.Code as codes;
+ghost use Rattle.wm_program.specs.Numbers.{plain_of};
 ghost use Rattle.wm_interp.specs.Held.{Goes, GoesBy};
 ghost use Rattle.wm_interp.specs.Going.{evaluate_on, three_on, gather_on, links_on};
 ghost use Rattle.wm_interp.specs.Doing as doing;
@@ -20,7 +20,7 @@ use crate::operations::{
     view_from,
 };
 use crate::scene::Scene;
-use wm_link::{
+use wm_program::{
     Call, Condition, Converted, Declared, End, Expr, Link, Passed, PlainMark, Scalar, Simple, Spot,
     Statement, View,
 };

@@ -1,6 +1,6 @@
 // Where something runs.
 use std::alloc::Global;
-use wm_link::{Program, Root};
+use wm_program::{Program, Root};
 use wm_weights::Weights;
 
 /// The program, its weights, an instance, what the view parameters of the instance look into, and how many calls may

@@ -1,8 +1,8 @@
 // Variables and their cells.
 ghost use Rattle.std.specs.Prelude.{◌≡◌, ◌∷◌, ◌++◌, [], slice_index_or, slice_set, replicate, map, pos, OnOk, OnErr, IfOk};
-ghost use Rattle.wm_link.specs.State.{number_in};
+ghost use Rattle.wm_program.specs.State.{number_in};
 ghost use Rattle.wm_interp.specs.Rows.{rows_of};
-ghost use Rattle.wm_link.specs.Execution.{listed};
+ghost use Rattle.wm_program.specs.Execution.{listed};
 
 use crate::halt::Refusal;
 use std::alloc::Global;

@@ -5,7 +5,7 @@ use std::test::Fail;
 use wm_interp::{Cause, End, FrameResult, Machine};
 use wm_interval::Interval;
 use wm_lang::Name;
-use wm_link::{
+use wm_program::{
     Array, Body, Comparison, Condition, Converted, Declared, Expr, FunctionInfo, InputInfo, Inputs,
     InstanceInfo, LocalInfo, ObjectInfo, PlainMark, Program, Scalar, Simple, Spot, Statement,
 };

@@ -1,11 +1,11 @@
 -- The text of a replay: for init, where there is one, and for each frame that was run, its failures and how it ended.
 use Rattle.std.specs.Prelude.{ℕ, ◌+◌, List, [], ◌∷◌, ◌++◌, Option, Some, None, codes, decimal}
 use Rattle.std.specs.Fmt.{signed_decimal}
-use Rattle.wm_link.specs.declared.results.Cause.{Cause}
-use Rattle.wm_link.specs.declared.results.End.{End}
-use Rattle.wm_link.specs.declared.results.End.TheVariants.{Ended, Stopped, StepLimit}
-use Rattle.wm_link.specs.declared.results.Event.{Event}
-use Rattle.wm_link.specs.declared.results.FrameResult.{FrameResult}
+use Rattle.wm_program.specs.declared.results.Cause.{Cause}
+use Rattle.wm_program.specs.declared.results.End.{End}
+use Rattle.wm_program.specs.declared.results.End.TheVariants.{Ended, Stopped, StepLimit}
+use Rattle.wm_program.specs.declared.results.Event.{Event}
+use Rattle.wm_program.specs.declared.results.FrameResult.{FrameResult}
 use Rattle.wm_report.specs.declared.replay.Part.{Part}
 use Rattle.wm_report.specs.declared.replay.Part.TheVariants.{Init, Frame}
 use Rattle.wm_report.specs.Words.{cause_word}

@@ -2,10 +2,10 @@
 use Rattle.std.specs.Prelude.{ℕ, List, Bool, true, false, codes}
 use Rattle.wm_cert.specs.declared.gap.End2.{End2}
 use Rattle.wm_cert.specs.declared.gap.End2.TheVariants.{Low, High}
-use Rattle.wm_report.specs.declared.fault.What.{What}
-use Rattle.wm_report.specs.declared.fault.What.TheVariants.{Functions, Objects, Locals, LoopNest, Instances, Heads, Size, Constants, Steps}
-use Rattle.wm_link.specs.declared.results.Cause.{Cause}
-use Rattle.wm_link.specs.declared.results.Cause.TheVariants.{Saturates, Domain, Index, Arithmetic, Narrowing, Unset}
+use Rattle.wm_program.specs.declared.faults.What.{What}
+use Rattle.wm_program.specs.declared.faults.What.TheVariants.{Functions, Objects, Locals, LoopNest, Instances, Heads, Size, Constants, Steps}
+use Rattle.wm_program.specs.declared.results.Cause.{Cause}
+use Rattle.wm_program.specs.declared.results.Cause.TheVariants.{Saturates, Domain, Index, Arithmetic, Narrowing, Unset}
 use Rattle.wm_report.specs.declared.fault.SourceName.{SourceName}
 use Rattle.wm_report.specs.declared.fault.SourceName.TheVariants.{BadByte, OpenComment, BadNumber, BadDirective, MacroLoop, TooManyTokens, Syntax, NoStruct, StructTwice, StructSize, NoMember, StructKind, UnknownName, Redefined, WrongKind, WrongCount, NotConstant, BadLength, AssignToConst, BreakOutside, MissingReturn, Recursion}
 

@@ -2,6 +2,7 @@
 use wm_cert::Gap;
 use wm_lang::Name;
 use wm_ops::Counted;
+use wm_program::What;
 
 /// A place in a source file, which has a name here.
 #[derive(Debug, Drop)]
@@ -38,29 +39,6 @@ pub enum SourceName {
     BreakOutside,
     MissingReturn,
     Recursion,
-}
-
-/// The quantities of a program that have a limit.
-#[derive(Clone, Copy, Debug, PartialEq, Eq)]
-pub enum What {
-    /// Functions, at most 1,024.
-    Functions,
-    /// Objects of static storage, at most 512.
-    Objects,
-    /// Parameters and automatic variables of one function, at most 256.
-    Locals,
-    /// Loops inside one another in one function, at most 8.
-    LoopNest,
-    /// Chains of call places, at most 1,024.
-    Instances,
-    /// Loop heads over all instances, with that of the frames, at most 2,048.
-    Heads,
-    /// Tokens of the function bodies, added over all instances, at most 100,000.
-    Size,
-    /// Different numbers in function bodies, at most 4,096.
-    Constants,
-    /// Different steps of loops, at most 16.
-    Steps,
 }
 
 /// A refusal, with what its line tells.

@@ -4,7 +4,7 @@ ghost use Rattle.wm_report.specs.Fault.{named, place_or_end, place_behind, fault
 ghost use Rattle.wm_report.specs.Words.{source_word, what_word};
 
 use crate::digits::push_number;
-use crate::fault::{At, RunFault, SourceName, What};
+use crate::fault::{At, RunFault, SourceName};
 use crate::gap_words::push_gap;
 use crate::pieces::{
     push_counted, push_keyed, push_named, push_out_of_range, push_place_behind, push_place_or_end,
@@ -12,6 +12,7 @@ use crate::pieces::{
 use crate::words::{source_word, what_word};
 use std::alloc::{AllocError, Global};
 use wm_ops::{NoMemory, counted_name};
+use wm_program::What;
 
 /// The status of a refusal: 2 for the sources, 3 for specification, weights and samples, 4 for a certificate, 5 for a
 /// read, 6 for a write, 7 for want of memory, 8 for the words.

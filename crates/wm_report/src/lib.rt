@@ -11,6 +11,6 @@ mod replay;
 mod tests;
 mod words;
 
-pub use fault::{At, RunFault, SourceName, What};
+pub use fault::{At, RunFault, SourceName};
 pub use fault_line::{fault_text, status_of};
 pub use replay::replay_text;

@@ -5,8 +5,8 @@ ghost use Rattle.wm_report.specs.Replay.{part_words, site_words, event_line, eve
 use crate::digits::{push_number, push_signed, push_wide};
 use crate::words::cause_word;
 use std::alloc::{AllocError, Global};
-use wm_link::{Cause, End, Event, FrameResult, Program};
 use wm_ops::NoMemory;
+use wm_program::{Cause, End, Event, FrameResult, Program};
 
 /// Whose lines they are.
 #[derive(Clone, Copy)]

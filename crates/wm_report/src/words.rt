@@ -2,9 +2,9 @@
 ghost use Rattle.std.specs.Prelude.{◌≡◌};
 ghost use Rattle.wm_report.specs.Words.{source_word, what_word, cause_word, edge_word, end_word};
 
-use crate::fault::{SourceName, What};
+use crate::fault::SourceName;
 use wm_cert::End2;
-use wm_link::Cause;
+use wm_program::{Cause, What};
 
 pub fn source_word(fault: SourceName) -> &'static [u8]
     ensures { result.now ≡ source_word fault }

@@ -3,9 +3,9 @@ use Rattle.std.specs.Prelude.{ℕ, ℤ, ◌+◌, ◌*◌, List, [], ◌∷◌, m
 use Rattle.std.specs.Option.{option_map_or}
 use Rattle.wm_ops.specs.declared.operators.Width.{Width}
 use Rattle.wm_ops.specs.declared.operators.Width.TheVariants.{W16}
-use Rattle.wm_link.specs.declared.program.ObjectInfo.{ObjectInfo}
-use Rattle.wm_link.specs.declared.program.InputInfo.{InputInfo}
-use Rattle.wm_link.specs.declared.program.Program.{Program}
+use Rattle.wm_program.specs.declared.program.ObjectInfo.{ObjectInfo}
+use Rattle.wm_program.specs.declared.program.InputInfo.{InputInfo}
+use Rattle.wm_program.specs.declared.program.Program.{Program}
 use Rattle.wm_samples.specs.Numbers.{bytes_of}
 
 -- an input: its cells, their width, and the least and greatest number of each

@@ -2,7 +2,7 @@
 use Rattle.std.specs.Prelude.{◌≡◌, ℕ, ℤ, List, map, Vec, Result, Ok, Err}
 use Rattle.std.specs.Borrow.{Bor}
 use Rattle.std.specs.declared.alloc.Global.{Global}
-use Rattle.wm_link.specs.declared.inputs.Inputs.{Inputs}
+use Rattle.wm_program.specs.declared.inputs.Inputs.{Inputs}
 use Rattle.wm_samples.specs.declared.fault.SampleFault.{SampleFault}
 use Rattle.wm_samples.specs.declared.fault.SampleFault.TheVariants.{Rest, OutOfRange, NoMemory}
 

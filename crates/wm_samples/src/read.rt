@@ -10,7 +10,7 @@ use crate::fault::SampleFault;
 use crate::numbers::{behind, bytes_of, number_in};
 use std::alloc::Global;
 use wm_interval::Interval;
-use wm_link::{Inputs, Program};
+use wm_program::{Inputs, Program};
 use wm_ops::List;
 
 /// The frames of a sample file. They follow each other; each has the inputs in the program's order, cell

@@ -4,7 +4,7 @@ use std::alloc::Global;
 use std::test::Fail;
 use wm_interval::Interval;
 use wm_lang::Name;
-use wm_link::{InputInfo, ObjectInfo, Program};
+use wm_program::{InputInfo, ObjectInfo, Program};
 use wm_ops::{List, Width};
 
 /// An object of the program, and its range where it is an input.

@@ -3,7 +3,7 @@ use Rattle.std.specs.Prelude.{ℕ, ◌+◌, ℤ, pos, negsuc, int_le, Bool, true
 use Rattle.std.specs.List.{list_any}
 use Rattle.std.specs.Option.{option_and_then}
 use Rattle.toml.specs.Data.{Data, array, table, as_table, Items, no_items, item, Members, no_members, member, same_key}
-use Rattle.wm_link.specs.Settings.{Range}
+use Rattle.wm_program.specs.Settings.{Range}
 use Rattle.wm_spec.specs.Values.{is_name, number_in}
 use Rattle.wm_spec.specs.Lists.{more_texts, all_new}
 

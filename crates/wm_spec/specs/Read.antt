@@ -4,7 +4,7 @@ use Rattle.std.specs.List.{list_any}
 use Rattle.std.specs.Str.{bytes_eq}
 use Rattle.std.specs.Option.{option_map}
 use Rattle.toml.specs.Data.{Data, Members, no_members, member, get_member}
-use Rattle.wm_link.specs.Settings.{Range, Settings}
+use Rattle.wm_program.specs.Settings.{Range, Settings}
 use Rattle.wm_toml.specs.Document.{document}
 use Rattle.wm_spec.specs.Values.{is_file_name, is_name, text_in, number_in}
 use Rattle.wm_spec.specs.Lists.{sources_in, frames_in}

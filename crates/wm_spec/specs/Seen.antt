@@ -12,8 +12,8 @@ use Rattle.toml.specs.Data.{Members, same_key}
 use Rattle.toml.specs.View.{table_view}
 use Rattle.toml.specs.declared.value.Value.{Value}
 use Rattle.wm_interval.specs.declared.Interval.{Interval}
-use Rattle.wm_link.specs.Settings.{Range, range_of}
-use Rattle.wm_link.specs.declared.spec.RangeOf.{RangeOf}
+use Rattle.wm_program.specs.Settings.{Range, range_of}
+use Rattle.wm_program.specs.declared.spec.RangeOf.{RangeOf}
 use Rattle.wm_spec.specs.Inputs.{members_or_none}
 use Rattle.wm_spec.specs.Lists.{all_new}
 use Rattle.wm_spec.specs.declared.fault.SpecFault.{SpecFault}

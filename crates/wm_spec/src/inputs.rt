@@ -3,7 +3,7 @@ ghost use Rattle.std.specs.Prelude.{◌≡◌, ◌==◌, ℕ, List, [], length, 
 ghost use Rattle.toml.specs.View.{view, table_view};
 ghost use Rattle.wm_spec.specs.Inputs.{bounds_in, word_in, pair_in, range_in, more_ranges, ranges_in, members_in, pack_in, packed, are_the_keys, keys_among, count_of};
 ghost use Rattle.wm_spec.specs.Seen.{Finds, same, ranges_of, bounds_of, option_members, HasTexts};
-ghost use Rattle.wm_link.specs.Settings.{range_of};
+ghost use Rattle.wm_program.specs.Settings.{range_of};
 
 use crate::lists::{set_of, texts_in};
 use crate::values::{Kind, number_in};
@@ -12,7 +12,7 @@ use std::collections::BTreeSet;
 use toml::{Table, Value};
 use wm_interval::Interval;
 use wm_lang::Name;
-use wm_link::RangeOf;
+use wm_program::RangeOf;
 use wm_ops::{List, NoMemory};
 
 /// The ranges of a table, in the byte order of its keys.

@@ -4,7 +4,7 @@ ghost use Rattle.std.specs.List.{list_any};
 ghost use Rattle.std.specs.Str.{bytes_eq};
 ghost use Rattle.toml.specs.Data.{get_member};
 ghost use Rattle.toml.specs.View.{view, table_view};
-ghost use Rattle.wm_link.specs.Settings.{settings_of};
+ghost use Rattle.wm_program.specs.Settings.{settings_of};
 ghost use Rattle.wm_spec.specs.Kinds.{test_of};
 ghost use Rattle.wm_spec.specs.Read.{read_of, settings_in, values_of, has_source, known_keys, is_known, optional, count_in, sources_at, frames_at, frame_us_at, steps_at, pack_at, ranges_at};
 ghost use Rattle.wm_spec.specs.Seen.{Gives, same, ranges_of, option_members, IsMissing};
@@ -18,7 +18,7 @@ use crate::values::{Kind, number_in, text_in};
 use std::alloc::Global;
 use toml::{Table, Value};
 use wm_lang::Name;
-use wm_link::{RangeOf, Spec};
+use wm_program::{RangeOf, Spec};
 use wm_ops::List;
 use wm_toml::{TableFault, read_table};
 

@@ -3,7 +3,7 @@ use crate::{SpecFault, read_spec};
 use std::alloc::Global;
 use std::test::Fail;
 use wm_lang::Name;
-use wm_link::Spec;
+use wm_program::Spec;
 
 fn text_of(bytes: &[u8]) -> &str {
     std::str::from_utf8(bytes).unwrap_or("?")

@@ -1,5 +1,5 @@
 use Rattle.std.proofs.Common.{◌≡◌, ◌++◌, drop}
-use Rattle.wm_link.specs.Runs.{fresh_cells}
+use Rattle.wm_program.specs.Runs.{fresh_cells}
 use Rattle.wm_interp.proofs.calls.fresh.Given as goal
 
 abbrev pub invariant-loop-k : goal.invariant-loop-k

@@ -1,5 +1,5 @@
 use Rattle.std.proofs.Common.{◌≡◌, ◌++◌, drop}
-use Rattle.wm_link.specs.Execution.{roots_in}
+use Rattle.wm_program.specs.Execution.{roots_in}
 use Rattle.wm_interp.specs.Parts.{passed_in}
 use Rattle.wm_interp.specs.Seen.{here_of}
 use Rattle.wm_interp.proofs.calls.roots_in.Given as goal

@@ -1,5 +1,5 @@
 use Rattle.std.proofs.Common.{◌≡◌, map, take}
-use Rattle.wm_link.specs.Runs.{initial_cells}
+use Rattle.wm_program.specs.Runs.{initial_cells}
 use Rattle.wm_interp.proofs.frames.first_objects.Given as goal
 
 abbrev pub invariant-loop-object : goal.invariant-loop-object

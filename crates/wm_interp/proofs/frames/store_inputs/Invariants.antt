@@ -1,6 +1,6 @@
 use Rattle.std.proofs.Common.{◌≡◌, drop, map}
-use Rattle.wm_link.specs.Code.{code_of, input_of}
-use Rattle.wm_link.specs.Runs.{with_inputs}
+use Rattle.wm_program.specs.Code.{code_of, input_of}
+use Rattle.wm_program.specs.Runs.{with_inputs}
 use Rattle.wm_interp.specs.Frames.{input_on}
 use Rattle.wm_interp.specs.Seen.{held_of}
 use Rattle.wm_interp.proofs.frames.store_inputs.Given as goal

@@ -1,5 +1,5 @@
 use Rattle.std.proofs.Common.{◌≡◌, ◌++◌, take, drop}
-use Rattle.wm_link.specs.Runs.{with_event}
+use Rattle.wm_program.specs.Runs.{with_event}
 use Rattle.wm_interp.proofs.memory.note_event.Given as goal
 
 abbrev pub invariant-loop-i : goal.invariant-loop-i

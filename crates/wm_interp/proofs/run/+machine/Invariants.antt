@@ -1,6 +1,6 @@
 -- How deep the recursion may still go; a function that calls another at the same depth ranks above it.
 use Rattle.std.proofs.Common.{◌≡◌, ◌+◌, ◌-◌, ◌*◌, [], drop, map}
-use Rattle.wm_link.specs.Trees.{test_of, effect_of, fresh_of}
+use Rattle.wm_program.specs.Trees.{test_of, effect_of, fresh_of}
 use Rattle.wm_interp.specs.Going.{links_on, gather_on}
 use Rattle.wm_interp.specs.Doing.{perform_all_on, make_all_on, exec_on, turns_on}
 use Rattle.wm_interp.specs.Layers.{series_on, loop_turn}

@@ -1,6 +1,6 @@
 use Rattle.std.proofs.Common.{◌∙◌, ap, map}
 use Rattle.std.proofs.lemmas.List.{map-append}
-use Rattle.wm_link.specs.declared.inputs.Inputs.{Inputs}
+use Rattle.wm_program.specs.declared.inputs.Inputs.{Inputs}
 use Rattle.wm_samples.specs.Form.{forms_of}
 use Rattle.wm_samples.specs.Seen.{values_of}
 use Rattle.wm_samples.proofs.Steps.{frame_read}

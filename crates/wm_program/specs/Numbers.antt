@@ -8,10 +8,10 @@ use Rattle.wm_ops.specs.declared.operators.Op.{Op}
 use Rattle.wm_ops.specs.declared.operators.Width.{Width}
 use Rattle.wm_ops.specs.declared.operators.Width.TheVariants.{W16, W32}
 use Rattle.wm_ops.specs.declared.outcomes.Outcome.{Outcome}
-use Rattle.wm_link.specs.declared.tree.PlainMark.{PlainMark}
-use Rattle.wm_link.specs.declared.tree.PlainMark.TheVariants.{Plus, Minus, Times, Divide}
-use Rattle.wm_link.specs.declared.tree.Comparison.{Comparison}
-use Rattle.wm_link.specs.declared.tree.Comparison.TheVariants.{Less, LessEqual, Greater, GreaterEqual, Equal, NotEqual}
+use Rattle.wm_program.specs.declared.tree.PlainMark.{PlainMark}
+use Rattle.wm_program.specs.declared.tree.PlainMark.TheVariants.{Plus, Minus, Times, Divide}
+use Rattle.wm_program.specs.declared.tree.Comparison.{Comparison}
+use Rattle.wm_program.specs.declared.tree.Comparison.TheVariants.{Less, LessEqual, Greater, GreaterEqual, Equal, NotEqual}
 
 -- the exact value; a quotient is truncated towards zero
 abbrev pub plain_of : PlainMark → ℤ → ℤ → ℤ

@@ -1,6 +1,6 @@
 // Facts about the definitions of what programs do, by which a reader can check them.
-ghost use Rattle.wm_link.specs.Laws.{GoesOn, GetsOn, RunsOn, ChoosesOn, StepsOn, GoesNowhere};
-ghost use Rattle.wm_link.specs.Examples.{QuotientStops, SizeSaturates, ShiftingRunsOut, UnsetStops, RatesCount, RatesBegin, HalvingStops, NarrowStops, EndlessCounts, FilledSaturates, QuotientFails, HalvingFails};
+ghost use Rattle.wm_program.specs.Laws.{GoesOn, GetsOn, RunsOn, ChoosesOn, StepsOn, GoesNowhere};
+ghost use Rattle.wm_program.specs.Examples.{QuotientStops, SizeSaturates, ShiftingRunsOut, UnsetStops, RatesCount, RatesBegin, HalvingStops, NarrowStops, EndlessCounts, FilledSaturates, QuotientFails, HalvingFails};
 
 /// It does nothing: its contract is a list of laws on what joins two executions.
 pub fn execution_laws()

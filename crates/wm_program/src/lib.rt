@@ -1,6 +1,7 @@
 //! What a specification says, what a program is and does, and the numbers that a frame reads.
 #![tactic(auto)]
 
+mod faults;
 mod inputs;
 pub mod laws;
 mod program;
@@ -8,6 +9,7 @@ mod results;
 mod spec;
 mod tree;
 
+pub use faults::{LinkFault, What};
 pub use inputs::Inputs;
 pub use program::{
     FunctionInfo, InputInfo, InstanceInfo, LocalInfo, LoopInfo, ObjectInfo, Program, Root,

@@ -2,29 +2,29 @@
 use Rattle.std.specs.Prelude.{ℕ, ℤ, Bool, List, [], ◌∷◌, map, Option, Some, None}
 use Rattle.std.specs.Option.{option_map_or}
 use Rattle.wm_ops.specs.declared.operators.Width.{Width}
-use Rattle.wm_link.specs.declared.tree.Converted.{Converted}
-use Rattle.wm_link.specs.declared.tree.Link.{Link}
-use Rattle.wm_link.specs.declared.tree.View.TheVariants as view
-use Rattle.wm_link.specs.declared.tree.Passed.{Passed}
-use Rattle.wm_link.specs.declared.tree.Passed.TheVariants as passed
-use Rattle.wm_link.specs.declared.tree.Expr.{Expr}
-use Rattle.wm_link.specs.declared.tree.Expr.TheOpen.{Expr-F}
-use Rattle.wm_link.specs.declared.tree.Expr.TheFolds.{fold-Expr}
-use Rattle.wm_link.specs.declared.tree.Condition.{Condition}
-use Rattle.wm_link.specs.declared.tree.Condition.TheOpen.{Condition-F}
-use Rattle.wm_link.specs.declared.tree.Condition.TheFolds.{fold-Condition}
-use Rattle.wm_link.specs.declared.tree.Spot.{Spot}
-use Rattle.wm_link.specs.declared.tree.Spot.TheVariants as spot
-use Rattle.wm_link.specs.declared.tree.Simple.{Simple}
-use Rattle.wm_link.specs.declared.tree.Simple.TheVariants as simple
-use Rattle.wm_link.specs.declared.tree.Declared.{Declared}
-use Rattle.wm_link.specs.declared.tree.Declared.TheVariants as made
-use Rattle.wm_link.specs.declared.tree.Otherwise.{Otherwise}
-use Rattle.wm_link.specs.declared.tree.Statement.{Statement}
-use Rattle.wm_link.specs.declared.tree.Statement.TheOpen.{Statement-F}
-use Rattle.wm_link.specs.declared.tree.Statement.TheFolds.{fold-Statement}
-use Rattle.wm_link.specs.declared.tree.Body.{Body}
-use Rattle.wm_link.specs.Tree.{Expression, Arguments, Test, Target, Effect, Fresh, Tree, Constant, Named, Element, Operator, Invoke, Plain, Negate, Plus, Cast, Done, Value, Whole, From, Always, Either, Both, Not, Compare, Truth, Variable, Item, Assign, Update, Evaluate, Count, Given, Filled, Blank, Listed, Skip, Seq, Block, Empty, Declare, Act, If, IfElse, For, While, Do, Break, Continue, Return, Leave}
+use Rattle.wm_program.specs.declared.tree.Converted.{Converted}
+use Rattle.wm_program.specs.declared.tree.Link.{Link}
+use Rattle.wm_program.specs.declared.tree.View.TheVariants as view
+use Rattle.wm_program.specs.declared.tree.Passed.{Passed}
+use Rattle.wm_program.specs.declared.tree.Passed.TheVariants as passed
+use Rattle.wm_program.specs.declared.tree.Expr.{Expr}
+use Rattle.wm_program.specs.declared.tree.Expr.TheOpen.{Expr-F}
+use Rattle.wm_program.specs.declared.tree.Expr.TheFolds.{fold-Expr}
+use Rattle.wm_program.specs.declared.tree.Condition.{Condition}
+use Rattle.wm_program.specs.declared.tree.Condition.TheOpen.{Condition-F}
+use Rattle.wm_program.specs.declared.tree.Condition.TheFolds.{fold-Condition}
+use Rattle.wm_program.specs.declared.tree.Spot.{Spot}
+use Rattle.wm_program.specs.declared.tree.Spot.TheVariants as spot
+use Rattle.wm_program.specs.declared.tree.Simple.{Simple}
+use Rattle.wm_program.specs.declared.tree.Simple.TheVariants as simple
+use Rattle.wm_program.specs.declared.tree.Declared.{Declared}
+use Rattle.wm_program.specs.declared.tree.Declared.TheVariants as made
+use Rattle.wm_program.specs.declared.tree.Otherwise.{Otherwise}
+use Rattle.wm_program.specs.declared.tree.Statement.{Statement}
+use Rattle.wm_program.specs.declared.tree.Statement.TheOpen.{Statement-F}
+use Rattle.wm_program.specs.declared.tree.Statement.TheFolds.{fold-Statement}
+use Rattle.wm_program.specs.declared.tree.Body.{Body}
+use Rattle.wm_program.specs.Tree.{Expression, Arguments, Test, Target, Effect, Fresh, Tree, Constant, Named, Element, Operator, Invoke, Plain, Negate, Plus, Cast, Done, Value, Whole, From, Always, Either, Both, Not, Compare, Truth, Variable, Item, Assign, Update, Evaluate, Count, Given, Filled, Blank, Listed, Skip, Seq, Block, Empty, Declare, Act, If, IfElse, For, While, Do, Break, Continue, Return, Leave}
 
 -- ---- expressions
 

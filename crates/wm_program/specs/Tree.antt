@@ -4,10 +4,10 @@ use Rattle.std.specs.Prelude.{ℕ, ℤ, Bool, List, Option}
 use Rattle.wm_ops.specs.declared.operators.Op.{Op}
 use Rattle.wm_ops.specs.declared.operators.Width.{Width}
 use Rattle.wm_ops.specs.declared.words.CountCall.{CountCall}
-use Rattle.wm_link.specs.declared.tree.Scalar.{Scalar}
-use Rattle.wm_link.specs.declared.tree.Array.{Array}
-use Rattle.wm_link.specs.declared.tree.PlainMark.{PlainMark}
-use Rattle.wm_link.specs.declared.tree.Comparison.{Comparison}
+use Rattle.wm_program.specs.declared.tree.Scalar.{Scalar}
+use Rattle.wm_program.specs.declared.tree.Array.{Array}
+use Rattle.wm_program.specs.declared.tree.PlainMark.{PlainMark}
+use Rattle.wm_program.specs.declared.tree.Comparison.{Comparison}
 
 mutual
   -- an expression

@@ -4,10 +4,10 @@ use Rattle.wm_numbers.specs.Clamp.{clamp}
 use Rattle.wm_ops.specs.Clamping.{leaves16, leaves32}
 use Rattle.wm_ops.specs.Division.{is_quotient, quotient}
 use Rattle.wm_ops.specs.Outcomes.{formula_of, in_domain, is_quiet, outcome_of}
-use Rattle.wm_link.specs.Execution.{operate, turns, rounds}
-use Rattle.wm_link.specs.Failure.{fails_on}
-use Rattle.wm_link.specs.Runs.{call_at, count_of, grouped, results_from, run_of}
-use Rattle.wm_link.specs.Examples.{QuotientStops, SizeSaturates, ShiftingRunsOut, UnsetStops, RatesCount, RatesBegin, HalvingStops, NarrowStops, EndlessCounts, FilledSaturates, QuotientFails, HalvingFails}
+use Rattle.wm_program.specs.Execution.{operate, turns, rounds}
+use Rattle.wm_program.specs.Failure.{fails_on}
+use Rattle.wm_program.specs.Runs.{call_at, count_of, grouped, results_from, run_of}
+use Rattle.wm_program.specs.Examples.{QuotientStops, SizeSaturates, ShiftingRunsOut, UnsetStops, RatesCount, RatesBegin, HalvingStops, NarrowStops, EndlessCounts, FilledSaturates, QuotientFails, HalvingFails}
 
 pub quotient_stops : QuotientStops
 unfolding clamp leaves16 leaves32 is_quotient quotient formula_of in_domain is_quiet outcome_of operate turns rounds call_at count_of grouped results_from run_of

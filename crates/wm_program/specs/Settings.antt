@@ -1,7 +1,7 @@
 -- What a specification says, as plain data.
 use Rattle.std.specs.Prelude.{ℕ, ℤ, List, map, Option}
-use Rattle.wm_link.specs.declared.spec.RangeOf.{RangeOf}
-use Rattle.wm_link.specs.declared.spec.Spec.{Spec}
+use Rattle.wm_program.specs.declared.spec.RangeOf.{RangeOf}
+use Rattle.wm_program.specs.declared.spec.Spec.{Spec}
 
 -- the range of an input: its name, and its least and greatest number
 pub record Range : Type 0 where

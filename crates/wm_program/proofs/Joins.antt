@@ -1,7 +1,7 @@
 -- The lemmas on what joins two executions, each by cases of one outcome.
 use Rattle.std.proofs.Common.{◌≡◌, ℕ, zero, suc, Bool, true, false, refl}
-use Rattle.wm_link.specs.State.{State}
-use Rattle.wm_link.specs.Outcomes.{Got, Gives, Halts, Ran, Next, Broke, Continued, Returned, Halted, step_from, with_step, then_go, then_get, then_run, choose}
+use Rattle.wm_program.specs.State.{State}
+use Rattle.wm_program.specs.Outcomes.{Got, Gives, Halts, Ran, Next, Broke, Continued, Returned, Halted, step_from, with_step, then_go, then_get, then_run, choose}
 
 pub then_go-then_go : (ran : Ran) (f g : State → Ran) → then_go (then_go ran f) g ≡ then_go ran (λ s. then_go (f s) g)
 then_go-then_go (Next s) f g = refl

@@ -7,14 +7,14 @@ use Rattle.wm_ops.specs.declared.outcomes.Outcome.{Outcome}
 use Rattle.wm_ops.specs.declared.outcomes.Outcome.TheVariants as outcome
 use Rattle.wm_ops.specs.declared.words.Counted.TheVariants as counted
 use Rattle.wm_ops.specs.declared.words.ControlWord.TheVariants as word
-use Rattle.wm_link.specs.declared.program.Root.{Root}
-use Rattle.wm_link.specs.declared.program.Root.TheVariants as root
-use Rattle.wm_link.specs.declared.results.Cause.TheVariants as cause
-use Rattle.wm_link.specs.declared.results.End.TheVariants as ends
-use Rattle.wm_link.specs.Numbers.{plain_of, compares, cast_to, clamp_to, is_outside, natural, operator_outcome}
-use Rattle.wm_link.specs.Tree.{Expression, Arguments, Test, Target, Effect, Fresh, Tree, Constant, Named, Element, Operator, Invoke, Plain, Negate, Plus, Cast, Done, Value, Whole, From, Always, Either, Both, Not, Compare, Truth, Variable, Item, Assign, Update, Evaluate, Count, Given, Filled, Blank, Listed, Skip, Seq, Block, Empty, Declare, Act, If, IfElse, For, While, Do, Break, Continue, Return, Leave}
-use Rattle.wm_link.specs.State.{State, Cells, Here, Place, At, Counts, Evaluated, Failed, Entered, Turned, with_cells, set_number, root_of, offset_of, place_of, number_at, put, noted, counting, flagged, failed_if}
-use Rattle.wm_link.specs.Outcomes.{Got, Gives, Halts, Ran, Next, Broke, Continued, Returned, Halted, with_step, then_go, then_get, then_run, choose, turn_on, tested}
+use Rattle.wm_program.specs.declared.program.Root.{Root}
+use Rattle.wm_program.specs.declared.program.Root.TheVariants as root
+use Rattle.wm_program.specs.declared.results.Cause.TheVariants as cause
+use Rattle.wm_program.specs.declared.results.End.TheVariants as ends
+use Rattle.wm_program.specs.Numbers.{plain_of, compares, cast_to, clamp_to, is_outside, natural, operator_outcome}
+use Rattle.wm_program.specs.Tree.{Expression, Arguments, Test, Target, Effect, Fresh, Tree, Constant, Named, Element, Operator, Invoke, Plain, Negate, Plus, Cast, Done, Value, Whole, From, Always, Either, Both, Not, Compare, Truth, Variable, Item, Assign, Update, Evaluate, Count, Given, Filled, Blank, Listed, Skip, Seq, Block, Empty, Declare, Act, If, IfElse, For, While, Do, Break, Continue, Return, Leave}
+use Rattle.wm_program.specs.State.{State, Cells, Here, Place, At, Counts, Evaluated, Failed, Entered, Turned, with_cells, set_number, root_of, offset_of, place_of, number_at, put, noted, counting, flagged, failed_if}
+use Rattle.wm_program.specs.Outcomes.{Got, Gives, Halts, Ran, Next, Broke, Continued, Returned, Halted, with_step, then_go, then_get, then_run, choose, turn_on, tested}
 
 -- what a call does: the function's number, where its body runs, the numbers of its arguments (a view's is its offset)
 abbrev pub Calls : Type 0

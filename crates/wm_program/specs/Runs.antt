@@ -2,19 +2,19 @@
 use Rattle.std.specs.Prelude.{ℕ, zero, suc, ◌+◌, Bool, ◌&&◌, if◌then◌else◌, List, [], ◌∷◌, map, length, replicate, take, drop, ℤ, pos, Option, Some, None, slice_set, ◌==◌}
 use Rattle.std.specs.Option.{option_map_or}
 use Rattle.wm_ops.specs.declared.words.Counted.{Counted}
-use Rattle.wm_link.specs.declared.program.ObjectInfo.{ObjectInfo}
-use Rattle.wm_link.specs.declared.program.LocalInfo.{LocalInfo}
-use Rattle.wm_link.specs.declared.program.Root.TheVariants as root
-use Rattle.wm_link.specs.declared.results.Cause.{Cause}
-use Rattle.wm_link.specs.declared.results.Cause.TheVariants.{Saturates, Domain, Index, Arithmetic, Narrowing, Unset}
-use Rattle.wm_link.specs.declared.results.End.{End}
-use Rattle.wm_link.specs.declared.results.End.TheVariants.{Ended, StepLimit}
-use Rattle.wm_link.specs.declared.results.Event.{Event}
-use Rattle.wm_link.specs.declared.results.FrameResult.{FrameResult}
-use Rattle.wm_link.specs.Code.{Code, Input, Routine, routine_at, function_of, length_of, cells_in}
-use Rattle.wm_link.specs.State.{State, Cells, Here, Note, Counts, Evaluated, Failed, Entered, Turned, with_cells}
-use Rattle.wm_link.specs.Outcomes.{Got, Gives, Halts, then_get, back}
-use Rattle.wm_link.specs.Execution.{Calls, exec, listed}
+use Rattle.wm_program.specs.declared.program.ObjectInfo.{ObjectInfo}
+use Rattle.wm_program.specs.declared.program.LocalInfo.{LocalInfo}
+use Rattle.wm_program.specs.declared.program.Root.TheVariants as root
+use Rattle.wm_program.specs.declared.results.Cause.{Cause}
+use Rattle.wm_program.specs.declared.results.Cause.TheVariants.{Saturates, Domain, Index, Arithmetic, Narrowing, Unset}
+use Rattle.wm_program.specs.declared.results.End.{End}
+use Rattle.wm_program.specs.declared.results.End.TheVariants.{Ended, StepLimit}
+use Rattle.wm_program.specs.declared.results.Event.{Event}
+use Rattle.wm_program.specs.declared.results.FrameResult.{FrameResult}
+use Rattle.wm_program.specs.Code.{Code, Input, Routine, routine_at, function_of, length_of, cells_in}
+use Rattle.wm_program.specs.State.{State, Cells, Here, Note, Counts, Evaluated, Failed, Entered, Turned, with_cells}
+use Rattle.wm_program.specs.Outcomes.{Got, Gives, Halts, then_get, back}
+use Rattle.wm_program.specs.Execution.{Calls, exec, listed}
 
 -- ---- calls
 

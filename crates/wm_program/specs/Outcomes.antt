@@ -1,9 +1,9 @@
 -- How an execution goes on, and what joins two of them. Each of these looks at one outcome.
 use Rattle.std.specs.Prelude.{ℕ, zero, suc, Bool, true, false, ℤ, pos}
-use Rattle.wm_link.specs.declared.results.Cause.{Cause}
-use Rattle.wm_link.specs.declared.results.End.{End}
-use Rattle.wm_link.specs.declared.results.End.TheVariants as ends
-use Rattle.wm_link.specs.State.{State, Evaluated, Failed, noted}
+use Rattle.wm_program.specs.declared.results.Cause.{Cause}
+use Rattle.wm_program.specs.declared.results.End.{End}
+use Rattle.wm_program.specs.declared.results.End.TheVariants as ends
+use Rattle.wm_program.specs.State.{State, Evaluated, Failed, noted}
 
 -- what an evaluation gives: a value, or no more since the run has ended so
 pub data Got (A : Type 0) : Type 0 where

@@ -1,7 +1,7 @@
 -- Laws on what joins two executions.
 use Rattle.std.specs.Prelude.{◌≡◌, Bool, ℤ}
-use Rattle.wm_link.specs.State.{State}
-use Rattle.wm_link.specs.Outcomes.{Got, Ran, Next, with_step, then_go, then_get, then_run, choose}
+use Rattle.wm_program.specs.State.{State}
+use Rattle.wm_program.specs.Outcomes.{Got, Ran, Next, with_step, then_go, then_get, then_run, choose}
 
 -- one thing after another, and a third behind both
 abbrev pub GoesOn : Type 0

@@ -2,18 +2,18 @@
 use Rattle.std.specs.Prelude.{ℕ, List, [], map, ℤ, Option, Some, None, slice_get, slice_index_or}
 use Rattle.std.specs.Option.{option_map_or}
 use Rattle.wm_ops.specs.declared.operators.Width.{Width}
-use Rattle.wm_link.specs.declared.program.LocalInfo.{LocalInfo}
-use Rattle.wm_link.specs.declared.program.ObjectInfo.{ObjectInfo}
-use Rattle.wm_link.specs.declared.program.SiteInfo.{SiteInfo}
-use Rattle.wm_link.specs.declared.program.LoopInfo.{LoopInfo}
-use Rattle.wm_link.specs.declared.program.InstanceInfo.{InstanceInfo}
-use Rattle.wm_link.specs.declared.program.InputInfo.{InputInfo}
-use Rattle.wm_link.specs.declared.program.FunctionInfo.{FunctionInfo}
-use Rattle.wm_link.specs.declared.program.Program.{Program}
-use Rattle.wm_link.specs.declared.program.Root.{Root}
-use Rattle.wm_link.specs.declared.program.Root.TheVariants as root
-use Rattle.wm_link.specs.Tree.{Tree, Skip}
-use Rattle.wm_link.specs.Trees.{body_of}
+use Rattle.wm_program.specs.declared.program.LocalInfo.{LocalInfo}
+use Rattle.wm_program.specs.declared.program.ObjectInfo.{ObjectInfo}
+use Rattle.wm_program.specs.declared.program.SiteInfo.{SiteInfo}
+use Rattle.wm_program.specs.declared.program.LoopInfo.{LoopInfo}
+use Rattle.wm_program.specs.declared.program.InstanceInfo.{InstanceInfo}
+use Rattle.wm_program.specs.declared.program.InputInfo.{InputInfo}
+use Rattle.wm_program.specs.declared.program.FunctionInfo.{FunctionInfo}
+use Rattle.wm_program.specs.declared.program.Program.{Program}
+use Rattle.wm_program.specs.declared.program.Root.{Root}
+use Rattle.wm_program.specs.declared.program.Root.TheVariants as root
+use Rattle.wm_program.specs.Tree.{Tree, Skip}
+use Rattle.wm_program.specs.Trees.{body_of}
 
 -- a function
 pub record Routine : Type 0 where

@@ -4,12 +4,12 @@ use Rattle.std.specs.Option.{option_map_or}
 use Rattle.wm_ops.specs.declared.operators.Op.{Op}
 use Rattle.wm_ops.specs.Clamping.{leaves16, leaves32}
 use Rattle.wm_ops.specs.Outcomes.{fails_of}
-use Rattle.wm_link.specs.declared.tree.Array.{Array}
-use Rattle.wm_link.specs.declared.tree.PlainMark.{PlainMark}
-use Rattle.wm_link.specs.Numbers.{plain_of, is_outside}
-use Rattle.wm_link.specs.Tree.{Expression, Arguments, Test, Target, Effect, Fresh, Tree, Constant, Named, Element, Operator, Invoke, Plain, Negate, Plus, Cast, Done, Value, Whole, From, Always, Either, Both, Not, Compare, Truth, Variable, Item, Assign, Update, Evaluate, Count, Given, Filled, Blank, Listed, Skip, Seq, Block, Empty, Declare, Act, If, IfElse, For, While, Do, Break, Continue, Return, Leave}
-use Rattle.wm_link.specs.State.{Here, root_of}
-use Rattle.wm_link.specs.Code.{Code, routine_at, function_of, roots_of, length_of}
+use Rattle.wm_program.specs.declared.tree.Array.{Array}
+use Rattle.wm_program.specs.declared.tree.PlainMark.{PlainMark}
+use Rattle.wm_program.specs.Numbers.{plain_of, is_outside}
+use Rattle.wm_program.specs.Tree.{Expression, Arguments, Test, Target, Effect, Fresh, Tree, Constant, Named, Element, Operator, Invoke, Plain, Negate, Plus, Cast, Done, Value, Whole, From, Always, Either, Both, Not, Compare, Truth, Variable, Item, Assign, Update, Evaluate, Count, Given, Filled, Blank, Listed, Skip, Seq, Block, Empty, Declare, Act, If, IfElse, For, While, Do, Break, Continue, Return, Leave}
+use Rattle.wm_program.specs.State.{Here, root_of}
+use Rattle.wm_program.specs.Code.{Code, routine_at, function_of, roots_of, length_of}
 
 -- What is done at a site. The operands are the arguments of an operator; those of a plain operator, for `+=` and its
 -- kin the number of the spot and the right side, for `++` and `--` the number of the spot and 1; the one operand of a

@@ -4,24 +4,24 @@ use Rattle.wm_ops.specs.declared.operators.Op.TheVariants.{Add, Sub, AbsS, Shl, 
 use Rattle.wm_ops.specs.declared.operators.Width.TheVariants.{W16, W32}
 use Rattle.wm_ops.specs.declared.words.Counted.{Counted}
 use Rattle.wm_ops.specs.declared.words.CountCall.TheVariants.{Move16}
-use Rattle.wm_link.specs.declared.program.LocalInfo.{LocalInfo}
-use Rattle.wm_link.specs.declared.program.ObjectInfo.{ObjectInfo}
-use Rattle.wm_link.specs.declared.program.InstanceInfo.{InstanceInfo}
-use Rattle.wm_link.specs.declared.program.Root.TheVariants as root
-use Rattle.wm_link.specs.declared.results.Cause.{Cause}
-use Rattle.wm_link.specs.declared.results.Cause.TheVariants.{Saturates, Domain, Index, Narrowing, Unset}
-use Rattle.wm_link.specs.declared.results.End.{End}
-use Rattle.wm_link.specs.declared.results.End.TheVariants.{Ended, Stopped, StepLimit}
-use Rattle.wm_link.specs.declared.results.Event.{Event}
-use Rattle.wm_link.specs.declared.results.FrameResult.{FrameResult}
-use Rattle.wm_link.specs.declared.tree.Scalar.TheVariants as scalar
-use Rattle.wm_link.specs.declared.tree.Array.TheVariants as array
-use Rattle.wm_link.specs.declared.tree.PlainMark.TheVariants.{Plus}
-use Rattle.wm_link.specs.declared.tree.Comparison.TheVariants.{Less, Equal}
-use Rattle.wm_link.specs.Tree.{Expression, Arguments, Tree, Constant, Named, Element, Operator, Invoke, Done, Value, From, Always, Compare, Variable, Item, Assign, Update, Evaluate, Count, Filled, Blank, Skip, Seq, Block, Declare, Act, If, IfElse, For, While}
-use Rattle.wm_link.specs.Code.{Code, Input, Routine}
-use Rattle.wm_link.specs.Failure.{FailsAt}
-use Rattle.wm_link.specs.Runs.{Frame, run_of}
+use Rattle.wm_program.specs.declared.program.LocalInfo.{LocalInfo}
+use Rattle.wm_program.specs.declared.program.ObjectInfo.{ObjectInfo}
+use Rattle.wm_program.specs.declared.program.InstanceInfo.{InstanceInfo}
+use Rattle.wm_program.specs.declared.program.Root.TheVariants as root
+use Rattle.wm_program.specs.declared.results.Cause.{Cause}
+use Rattle.wm_program.specs.declared.results.Cause.TheVariants.{Saturates, Domain, Index, Narrowing, Unset}
+use Rattle.wm_program.specs.declared.results.End.{End}
+use Rattle.wm_program.specs.declared.results.End.TheVariants.{Ended, Stopped, StepLimit}
+use Rattle.wm_program.specs.declared.results.Event.{Event}
+use Rattle.wm_program.specs.declared.results.FrameResult.{FrameResult}
+use Rattle.wm_program.specs.declared.tree.Scalar.TheVariants as scalar
+use Rattle.wm_program.specs.declared.tree.Array.TheVariants as array
+use Rattle.wm_program.specs.declared.tree.PlainMark.TheVariants.{Plus}
+use Rattle.wm_program.specs.declared.tree.Comparison.TheVariants.{Less, Equal}
+use Rattle.wm_program.specs.Tree.{Expression, Arguments, Tree, Constant, Named, Element, Operator, Invoke, Done, Value, From, Always, Compare, Variable, Item, Assign, Update, Evaluate, Count, Filled, Blank, Skip, Seq, Block, Declare, Act, If, IfElse, For, While}
+use Rattle.wm_program.specs.Code.{Code, Input, Routine}
+use Rattle.wm_program.specs.Failure.{FailsAt}
+use Rattle.wm_program.specs.Runs.{Frame, run_of}
 
 -- each word weighs 1
 abbrev pub ones : Counted → Option ℕ
