@@ -1,0 +1,10 @@
+//! How long the state of each node of a graph is needed, and how many states are needed at once.
+#![tactic(auto)]
+
+mod last;
+mod room;
+#[cfg(test)]
+mod tests;
+
+pub use last::last_uses;
+pub use room::width;
