@@ -1,0 +1,4 @@
+pub mod Repeated
+pub mod Rounds
+pub mod Recursion
+pub mod Sizes
