@@ -40,3 +40,8 @@ all_behind f done (x ∷ xs) = all_behind f (done ++ f x ∷ []) xs
 abbrev pub Makes : {A : Type 0} → A × State → Result A NoMemory → State → Type 0
 Makes made (Ok a) new = made ≡ (a, new)
 Makes made (Err e) new = Unit {0}
+
+-- the items behind those so far were made, unless memory was refused
+abbrev pub Adds : {A : Type 0} → List A × State → Result (Unit {0}) NoMemory → List A → State → Type 0
+Adds made (Ok a) done new = made ≡ (done, new)
+Adds made (Err e) done new = Unit {0}

@@ -2,10 +2,13 @@
 //! expanded unit, or the first struct fault. Beside them stand the types that they name and the order of the faults.
 #![tactic(auto)]
 
+mod expression;
 mod fault;
 mod handed;
 mod member;
 mod names;
+mod naming;
+mod spot;
 mod state;
 mod statement;
 mod table;

@@ -9,19 +9,19 @@ use Rattle.wm_struct.proofs.table.Table.add.Goals as goal
 pub returns-then-is_some : goal.returns-then-is_some
 returns-then-is_some g c =
     let here : is_some (found c.args.name.now c.args.self.now) ≡ true =
-      sym (ap is_some (c.get.ensures.value ∙ lookup-named c.args.name c.self.inside.entries.entries ∙ ap (found c.args.name.now) c.self.view_is))
-      ∙ is_some-copied c.get.result ∙ sym c.is_some.ensures ∙ c.if-is_some.true in
+    sym (ap is_some (c.get.ensures.value ∙ lookup-named c.args.name c.self.inside.entries.entries ∙ ap (found c.args.name.now) c.self.view_is))
+    ∙ is_some-copied c.get.result ∙ sym c.is_some.ensures ∙ c.if-is_some.true in
     record { added = sym (added-there c.args.name.now c.args.value c.args.self.now here) }
 
 pub returns : goal.returns
 returns g c =
     let absent = none-found c.get.result _ (sym c.is_some.ensures ∙ c.if-is_some.false) c.get.ensures.value in
     let new : is_some (found c.args.name.now (named c.self.inside.entries.entries)) ≡ false =
-      ap is_some (sym (lookup-named c.args.name c.self.inside.entries.entries) ∙ absent) in
+    ap is_some (sym (lookup-named c.args.name c.self.inside.entries.entries) ∙ absent) in
     record {
       added =
-        ap named (c.in_ok-insert.ensures.entries ∙ insert_entry-new (λ x y. bytes_eq x.now y.now) c.self.inside.entries c.args.name c.args.value absent)
-        ∙ named-behind c.self.inside.entries.entries (c.args.name, c.args.value)
-        ∙ sym (added-new c.args.name.now c.args.value (named c.self.inside.entries.entries) new)
-        ∙ ap (added c.args.name.now c.args.value) c.self.view_is;
+          ap named (c.in_ok-insert.ensures.entries ∙ insert_entry-new (λ x y. bytes_eq x.now y.now) c.self.inside.entries c.args.name c.args.value absent)
+          ∙ named-behind c.self.inside.entries.entries (c.args.name, c.args.value)
+          ∙ sym (added-new c.args.name.now c.args.value (named c.self.inside.entries.entries) new)
+          ∙ ap (added c.args.name.now c.args.value) c.self.view_is;
     }
