@@ -10,36 +10,35 @@ use Rattle.wm_scope.specs.declared.reading.CallPlace.{CallPlace}
 use Rattle.wm_scope.specs.Faults.{with_fault}
 use Rattle.wm_marks.specs.declared.marks.Marks.{Marks}
 
--- a value and what is collected behind it
-abbrev pub Marked : Type 0 → Type 0
-Marked A = A × Marks
+-- a step of the reading: a value, and what stands behind it
+abbrev pub Step : Type 0 → Type 0 → Type 0
+Step S A = S → A × S
 
--- a step of the reading
 abbrev pub Marking : Type 0 → Type 0
-Marking A = Marks → Marked A
+Marking A = Step Marks A
 
-abbrev pub and_then : {A B : Type 0} → Marked A → (A → Marking B) → Marked B
-and_then (a, m) f = f a m
+abbrev pub and_then : {S A B : Type 0} → A × S → (A → S → B × S) → B × S
+and_then (a, s) f = f a s
 
 infixl 10 ◌>>=◌
-abbrev pub ◌>>=◌ : {A B : Type 0} → Marking A → (A → Marking B) → Marking B
-p >>= f = λ m. and_then (p m) f
+abbrev pub ◌>>=◌ : {S A B : Type 0} → Step S A → (A → Step S B) → Step S B
+p >>= f = λ s. and_then (p s) f
 
 infixl 10 ◌>>◌
-abbrev pub ◌>>◌ : {A B : Type 0} → Marking A → Marking B → Marking B
+abbrev pub ◌>>◌ : {S A B : Type 0} → Step S A → Step S B → Step S B
 p >> q = p >>= (λ _. q)
 
-abbrev pub pure : {A : Type 0} → A → Marking A
-pure a = λ m. (a, m)
+abbrev pub pure : {S A : Type 0} → A → Step S A
+pure a = λ s. (a, s)
 
 infixr 11 ◌<$>◌
-abbrev pub ◌<$>◌ : {A B : Type 0} → (A → B) → Marking A → Marking B
+abbrev pub ◌<$>◌ : {S A B : Type 0} → (A → B) → Step S A → Step S B
 f <$> p = p >>= (λ x. pure (f x))
 
--- what a call ensures that takes the step: its value and what is collected, but for want of memory
-abbrev pub Gives : {A : Type 0} → Marked A → Result A NoMemory → Marks → Type 0
-Gives marked (Ok a) new = marked ≡ (a, new)
-Gives marked (Err refused) new = Unit {0}
+-- what a call ensures that takes the step: its value and what stands behind it, but for want of memory
+abbrev pub Gives : {S A : Type 0} → A × S → Result A NoMemory → S → Type 0
+Gives given (Ok a) new = given ≡ (a, new)
+Gives given (Err refused) new = Unit {0}
 
 -- ---- the steps
 
