@@ -1,0 +1,4 @@
+pub mod Changes
+pub mod Forms
+pub mod Points
+pub mod States
