@@ -1,7 +1,9 @@
 -- What a node shows, read back.
 use Rattle.std.proofs.Common.{◌≡◌, ℕ, ℤ, List, Option, Some, None, subst, refl}
 use Rattle.wm_program.specs.State.{State, number_at, place_of, cells_of}
-use Rattle.wm_flow.specs.Places.{Source, Variable, Cells, here_of, bases_of, scalar_source, root_source}
+use Rattle.wm_flow.specs.declared.scene.Source.{Source}
+use Rattle.wm_flow.specs.declared.scene.Source.TheVariants.{Variable, Cells}
+use Rattle.wm_flow.specs.Places.{here_of, bases_of, scalar_source, root_source}
 use Rattle.wm_flow.specs.Shows.{Shows, ShowsSource, ShowsCells, ShowsNumber}
 use Rattle.wm_flow.specs.Laws.{ReadsScalar, ReadsCells}
 

@@ -14,7 +14,9 @@ use Rattle.wm_flow.specs.declared.seats.LocalSeat.TheVariants as local_seat
 use Rattle.wm_flow.specs.declared.seats.Tables.{Tables}
 use Rattle.wm_flow.specs.Plain.{Doing, Enter, Leave}
 use Rattle.wm_flow.specs.Kept.{form_of, constant, variable}
-use Rattle.wm_flow.specs.Places.{Plan, Scene, Bases, bases_of, state_place, input_place, overflow_place, scalar_place, first_counter, group_size, first_input, temporary, related_states, other_states, related_scalars, other_scalars, local_seat_at, above_at}
+use Rattle.wm_flow.specs.declared.scene.Scene.{Scene}
+use Rattle.wm_flow.specs.declared.scene.Bases.{Bases}
+use Rattle.wm_flow.specs.Places.{Plan, bases_of, state_place, input_place, overflow_place, scalar_place, first_counter, group_size, first_input, temporary, related_states, other_states, related_scalars, other_scalars, local_seat_at, above_at}
 
 -- where an instance begins: no loop is open
 abbrev pub scene_of : Plan → ℕ → Scene

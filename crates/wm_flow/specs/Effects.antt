@@ -15,10 +15,16 @@ use Rattle.wm_flow.specs.Plain as plain
 use Rattle.wm_flow.specs.Kept.{form_of, constant, variable}
 use Rattle.wm_flow.specs.Layouts.{range, width_range}
 use Rattle.wm_flow.specs.Seats.{low_of, high_of}
-use Rattle.wm_flow.specs.Places.{Plan, Scene, Bases, Source, Cells, Fixed, bases_of, temporary, overflow_place, scalar_source, array_source, offset_of}
-use Rattle.wm_flow.specs.Places as places
+use Rattle.wm_flow.specs.declared.scene.Scene.{Scene}
+use Rattle.wm_flow.specs.declared.scene.Bases.{Bases}
+use Rattle.wm_flow.specs.declared.scene.Source.{Source}
+use Rattle.wm_flow.specs.declared.scene.Source.TheVariants.{Cells, Fixed}
+use Rattle.wm_flow.specs.Places.{Plan, bases_of, temporary, overflow_place, scalar_source, array_source, offset_of}
+use Rattle.wm_flow.specs.declared.scene.Source.TheVariants as places
 use Rattle.wm_flow.specs.Strokes.{Stroke, step, nothing}
-use Rattle.wm_flow.specs.Yields.{Held, Coming, coming, yielded, yield_size, yield_strokes, after}
+use Rattle.wm_flow.specs.declared.scene.Held.{Held}
+use Rattle.wm_flow.specs.declared.scene.Coming.{Coming}
+use Rattle.wm_flow.specs.Yields.{coming, yielded, yield_size, yield_strokes, after}
 use Rattle.wm_flow.specs.Expressions.{value, values_after, size, sizes, strokes, all_strokes, operate_size, operate_strokes, no_values, left_waiting, only_value, behind, reading, reading_site, place_size, place_strokes, last_index, cells_in, plain_value, plain_strokes, narrow_size, narrow_strokes}
 
 -- ---- stores

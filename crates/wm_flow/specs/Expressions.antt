@@ -22,9 +22,15 @@ use Rattle.wm_flow.specs.Plain.{Doing, AssignForm, AssignRange, Read, Operate, C
 use Rattle.wm_flow.specs.Plain as plain
 use Rattle.wm_flow.specs.Kept.{form_of, constant, variable, collected, negative_of}
 use Rattle.wm_flow.specs.Layouts.{range}
-use Rattle.wm_flow.specs.Places.{Plan, Scene, Bases, Source, Variable, Cells, Fixed, bases_of, temporary, overflow_place, scalar_source, array_source, offset_of, here_of, is_named}
+use Rattle.wm_flow.specs.declared.scene.Scene.{Scene}
+use Rattle.wm_flow.specs.declared.scene.Bases.{Bases}
+use Rattle.wm_flow.specs.declared.scene.Source.{Source}
+use Rattle.wm_flow.specs.declared.scene.Source.TheVariants.{Variable, Cells, Fixed}
+use Rattle.wm_flow.specs.Places.{Plan, bases_of, temporary, overflow_place, scalar_source, array_source, offset_of, here_of, is_named}
 use Rattle.wm_flow.specs.Strokes.{Stroke, Line, Part, point, step, tested}
-use Rattle.wm_flow.specs.Yields.{Held, Coming, coming, own_operator, yielded, yield_size, yield_strokes, to_temporary, after, with_value}
+use Rattle.wm_flow.specs.declared.scene.Held.{Held}
+use Rattle.wm_flow.specs.declared.scene.Coming.{Coming}
+use Rattle.wm_flow.specs.Yields.{coming, own_operator, yielded, yield_size, yield_strokes, to_temporary, after, with_value}
 use Rattle.wm_flow.specs.Calls.{result_of, result_size, enter, leave}
 
 -- ---- reads

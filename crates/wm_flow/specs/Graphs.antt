@@ -9,7 +9,8 @@ use Rattle.wm_flow.specs.declared.seats.Seat.TheVariants as seat
 use Rattle.wm_flow.specs.declared.seats.Tables.{Tables}
 use Rattle.wm_flow.specs.Plain.{Range, Layout, Bounded, Doing, Arc, Flow, Inputs}
 use Rattle.wm_flow.specs.Layouts.{range, layout_at}
-use Rattle.wm_flow.specs.Places.{Plan, Bases, bases_of, input_place, seat_at}
+use Rattle.wm_flow.specs.declared.scene.Bases.{Bases}
+use Rattle.wm_flow.specs.Places.{Plan, bases_of, input_place, seat_at}
 use Rattle.wm_flow.specs.Strokes.{Stroke, Point, Line, Part, Begins, Turns, point}
 use Rattle.wm_flow.specs.Calls.{scene_of, to_head, to_head_from_start, from_head}
 use Rattle.wm_flow.specs.Expressions.{size_at}

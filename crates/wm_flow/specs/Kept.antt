@@ -4,6 +4,7 @@ use Rattle.std.specs.Option.{option_map_or}
 use Rattle.wm_domain.specs.declared.form.Term.{Term}
 use Rattle.wm_domain.specs.declared.form.Form.{Form}
 use Rattle.wm_flow.specs.declared.kept.Kept.{Kept}
+use Rattle.wm_flow.specs.declared.kept.Pair.{Pair}
 
 abbrev pub constant : ℤ → Kept
 constant z = record { first = None; second = None; constant = z }
@@ -32,8 +33,7 @@ is_below limit = all_terms (λ term. nat_lt term.variable limit)
 
 -- a variable or a constant, and nothing more
 abbrev pub is_zero : ℤ → Bool
-is_zero (pos n) = n == 0
-is_zero (negsuc n) = false
+is_zero z = if int_lt z (pos 0) then false else if int_lt (pos 0) z then false else true
 
 abbrev pub is_plain : Option Term → Option Term → ℤ → Bool
 is_plain None second z = true
@@ -79,11 +79,6 @@ abbrev pub same_sign : Bool → Bool → Bool
 same_sign true b = b
 same_sign false b = not b
 
--- a pair of terms of different variables
-pub record Pair : Type 0 where
-  pub first : Option Term
-  pub second : Option Term
-
 -- one more term: a term that cancels goes, a new one stands last; none where a variable would stand twice or there is no
 -- room
 abbrev pub with_second : Term → Term → Option Term → Option Pair
@@ -118,13 +113,13 @@ with_terms a b (Some c) None = with_term c a b
 with_terms a b (Some c) (Some d) =
     if has_variable d a b then then_term c (with_term d a b) else then_term d (with_term c a b)
 
-abbrev pub is_small : ℤ → Bool
-is_small z = int_lt (negsuc 1125899906842623) z && int_lt z (pos 1125899906842624)
-
+-- where the constant is below 2^50 in size
 abbrev pub kept_of : Option Pair → ℤ → Option Kept
 kept_of None z = None
 kept_of (Some pair) z =
-    if is_small z then Some (record { first = pair.first; second = pair.second; constant = z }) else None
+    if int_lt (negsuc 1125899906842623) z
+    then (if int_lt z (pos 1125899906842624) then Some (record { first = pair.first; second = pair.second; constant = z }) else None)
+    else None
 
 -- the sum, or the difference where the second is turned; none where it is no form
 unfoldable pub collected : Kept → Bool → Kept → Option Kept

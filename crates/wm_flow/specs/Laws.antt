@@ -6,7 +6,9 @@ use Rattle.wm_program.specs.State.{State, number_at, place_of, cells_of}
 use Rattle.std.specs.Prelude.{slice_get}
 use Rattle.wm_flow.specs.Kept.{at}
 use Rattle.wm_flow.specs.Points.{Store}
-use Rattle.wm_flow.specs.Places.{Plan, Scene, Variable, Cells, here_of, bases_of, scalar_source, root_source}
+use Rattle.wm_flow.specs.declared.scene.Scene.{Scene}
+use Rattle.wm_flow.specs.declared.scene.Source.TheVariants.{Variable, Cells}
+use Rattle.wm_flow.specs.Places.{Plan, here_of, bases_of, scalar_source, root_source}
 use Rattle.wm_flow.specs.Shows.{Shows, IsThere}
 
 -- the variable for which a scalar stands has its number, where that is set

@@ -9,7 +9,9 @@ use Rattle.wm_flow.specs.declared.seats.Tables.{Tables}
 use Rattle.wm_flow.specs.Plain.{Write}
 use Rattle.wm_flow.specs.Seats.{tables_of}
 use Rattle.wm_flow.specs.Kept.{form_of, variable}
-use Rattle.wm_flow.specs.Places.{Plan, Scene, Bases, bases_of, temporary, above_at}
+use Rattle.wm_flow.specs.declared.scene.Scene.{Scene}
+use Rattle.wm_flow.specs.declared.scene.Bases.{Bases}
+use Rattle.wm_flow.specs.Places.{Plan, sum_rows, bases_of, temporary, above_at}
 use Rattle.wm_flow.specs.Strokes.{Stroke, Line, point, step, nothing}
 use Rattle.wm_flow.specs.Calls.{scene_of, result_size, seats_of, addressed_in}
 use Rattle.wm_flow.specs.Statements.{Around, tree_size, tree_strokes}
@@ -62,11 +64,11 @@ part_strokes plan instance start =
 
 -- ---- how many nodes each instance has: an instance calls later ones alone, so the last one is looked at first
 
-abbrev pub plan_with : Code → Tables → List Sum → List ℕ → Plan
+abbrev pub plan_with : Code → Tables → List (List Sum) → List ℕ → Plan
 plan_with code tables sums sizes = record { code = code; tables = tables; sums = sums; sizes = sizes }
 
 -- the sizes, with those of the so many first instances still to come; until then they count 0
-abbrev pub sized : Code → Tables → List Sum → (left : ℕ) → List ℕ → List ℕ
+abbrev pub sized : Code → Tables → List (List Sum) → (left : ℕ) → List ℕ → List ℕ
 sized code tables sums zero sizes = sizes
 sized code tables sums (suc left) sizes =
     sized code tables sums left (slice_set sizes left (part_size (plan_with code tables sums sizes) left))
@@ -74,7 +76,10 @@ sized code tables sums (suc left) sizes =
 abbrev pub instance_count : Code → ℕ
 instance_count code = length code.instances
 
+-- the plan for these tables and sum counters by head
+unfoldable pub plan_for : Code → Tables → List (List Sum) → Plan
+plan_for code tables sums =
+    plan_with code tables sums (sized code tables sums (instance_count code) (replicate (instance_count code) 0))
+
 unfoldable pub plan_of : Code → List Sum → Plan
-plan_of code sums =
-    plan_with code (tables_of code) sums
-    (sized code (tables_of code) sums (instance_count code) (replicate (instance_count code) 0))
+plan_of code sums = plan_for code (tables_of code) (sum_rows (tables_of code).heads sums)

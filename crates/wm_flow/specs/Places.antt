@@ -3,7 +3,7 @@
 -- then the singles, namely the other state scalars, the input scalars, Overflow, the other scalars of the function and the
 -- temporaries in use. The arrays are those of static storage that are not const, and then the automatic ones of the
 -- instances from the root to this one.
-use Rattle.std.specs.Prelude.{ℕ, zero, suc, ◌+◌, ◌-◌, min, Bool, ◌||◌, ◌&&◌, not, if◌then◌else◌, ◌==◌, nat_lt, List, [], ◌∷◌, length, ℤ, pos, Option, Some, None, slice_index_or}
+use Rattle.std.specs.Prelude.{ℕ, zero, suc, ◌+◌, ◌-◌, min, Bool, ◌||◌, ◌&&◌, not, if◌then◌else◌, ◌==◌, nat_lt, List, [], ◌∷◌, ◌++◌, length, ℤ, pos, Option, Some, None, slice_index_or}
 use Rattle.std.specs.Option.{option_map_or}
 use Rattle.wm_domain.specs.declared.form.Term.{Term}
 use Rattle.wm_program.specs.declared.program.Root.{Root}
@@ -16,6 +16,10 @@ use Rattle.wm_program.specs.Code.{Code, function_of, roots_of}
 use Rattle.wm_program.specs.State.{Here, root_of}
 use Rattle.wm_flow.specs.declared.graph.Sum.{Sum}
 use Rattle.wm_flow.specs.declared.kept.Kept.{Kept}
+use Rattle.wm_flow.specs.declared.scene.Scene.{Scene}
+use Rattle.wm_flow.specs.declared.scene.Bases.{Bases}
+use Rattle.wm_flow.specs.declared.scene.Source.{Source}
+use Rattle.wm_flow.specs.declared.scene.Source.TheVariants.{Variable, Cells, Fixed}
 use Rattle.wm_flow.specs.declared.seats.Seat.{Seat}
 use Rattle.wm_flow.specs.declared.seats.Seat.TheVariants as seat
 use Rattle.wm_flow.specs.declared.seats.LocalSeat.{LocalSeat}
@@ -26,20 +30,13 @@ use Rattle.wm_flow.specs.declared.seats.Tables.{Tables}
 use Rattle.wm_flow.specs.Seats.{counts_in}
 use Rattle.wm_flow.specs.Kept.{is_below, any_term, variable, constant}
 
--- What is the same for all nodes of a program: the program, where things stand in it, the sum counters of its heads, and
+-- What is the same for all nodes of a program: the program, where things stand in it, the sum counters of each head, and
 -- how many nodes each instance has.
 pub record Plan : Type 0 where
   pub code : Code
   pub tables : Tables
-  pub sums : List Sum
+  pub sums : List (List Sum)
   pub sizes : List ℕ
-
--- Where a node stands: its instance with the function, how many loops of it are open, and the innermost one.
-pub record Scene : Type 0 where
-  pub instance : ℕ
-  pub function : ℕ
-  pub depth : ℕ
-  pub inner : Option ℕ
 
 -- the number of the head of a loop in an instance
 abbrev pub head_of : Tables → ℕ → ℕ → ℕ
@@ -50,8 +47,14 @@ abbrev pub sums_at : List Sum → ℕ → List Sum
 sums_at [] head = []
 sums_at (sum ∷ rest) head = if sum.head == head then sum ∷ sums_at rest head else sums_at rest head
 
+-- those of the first so many heads
+abbrev pub sum_rows : (heads : ℕ) → List Sum → List (List Sum)
+sum_rows zero sums = []
+sum_rows (suc head) sums = sum_rows head sums ++ sums_at sums head ∷ []
+
 abbrev pub sums_in : Plan → ℕ → Option ℕ → List Sum
-sums_in plan instance inner = option_map_or (λ loop. sums_at plan.sums (head_of plan.tables instance loop)) inner []
+sums_in plan instance inner =
+    option_map_or (λ loop. slice_index_or plan.sums (head_of plan.tables instance loop) []) inner []
 
 -- how many of a kind stand in the group, and how many behind it
 abbrev pub related_states : Counts → ℕ
@@ -67,13 +70,6 @@ abbrev pub other_scalars : LocalCounts → ℕ
 other_scalars counts = counts.scalars - 12
 
 -- what the numbers of a node's variables rest on
-pub record Bases : Type 0 where
-  pub counts : Counts
-  pub locals : LocalCounts
-  -- the counters of loops and the sum counters
-  pub loops : ℕ
-  pub sums : ℕ
-
 unfoldable pub bases_of : Plan → Scene → Bases
 bases_of plan scene =
     record {
@@ -121,11 +117,6 @@ abbrev pub temporary : Bases → ℕ → ℕ
 temporary bases k = first_temporary bases + k
 
 -- ---- what a name stands for: a variable, an array, or a const object with the ends of its values
-
-pub data Source : Type 0 where
-  Variable : (variable : ℕ) → Source
-  Cells : (array : ℕ) → Source
-  Fixed : (low high : ℤ) → Source
 
 abbrev pub seat_at : Tables → ℕ → Seat
 seat_at tables object = slice_index_or tables.objects object (seat.Constant (pos 0) (pos 0))

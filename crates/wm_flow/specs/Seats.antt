@@ -128,15 +128,14 @@ loops_in (it ∷ rest) function = if it.function == function then suc (loops_in 
 
 -- the loops stand by function, in the order of the source: a loop is the first of its function where the loop before it
 -- is of another one
-abbrev pub rank_after : Option (ℕ × ℕ) → ℕ → ℕ
-rank_after None function = 0
-rank_after (Some before) function = if before.0 == function then suc before.1 else 0
+abbrev pub rank_after : (before next function : ℕ) → ℕ
+rank_after before next function = if before == function then next else 0
 
--- the ranks of loops behind one of a function and a rank
-abbrev pub ranks_from : Option (ℕ × ℕ) → List LoopInfo → List ℕ
-ranks_from before [] = []
-ranks_from before (it ∷ rest) =
-    rank_after before it.function ∷ ranks_from (Some (it.function, rank_after before it.function)) rest
+-- the ranks of loops behind one of a function, the next rank of that function being known
+abbrev pub ranks_from : (before next : ℕ) → List LoopInfo → List ℕ
+ranks_from before next [] = []
+ranks_from before next (it ∷ rest) =
+    rank_after before next it.function ∷ ranks_from it.function (suc (rank_after before next it.function)) rest
 
 abbrev pub heads_from : List ℕ → ℕ → List InstanceInfo → List ℕ
 heads_from counts next [] = []
@@ -166,6 +165,6 @@ tables_of code =
       local_counts = local_counts;
       above = above_from counts.arrays local_counts code.instances [] code.instances;
       first_heads = heads_from loops 1 code.instances;
-      ranks = ranks_from None code.loops;
+      ranks = ranks_from 0 0 code.loops;
       heads = heads_behind loops 1 code.instances;
     }

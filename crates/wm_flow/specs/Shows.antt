@@ -11,7 +11,11 @@ use Rattle.wm_flow.specs.Plain.{Range, Layout}
 use Rattle.wm_flow.specs.Layouts.{caller_of}
 use Rattle.wm_flow.specs.Kept.{at}
 use Rattle.wm_flow.specs.Points.{Store, StoreOf, CellsIn}
-use Rattle.wm_flow.specs.Places.{Plan, Scene, Bases, Source, Variable, Cells, Fixed, bases_of, scalar_source, root_source, here_of, first_counter, temporary}
+use Rattle.wm_flow.specs.declared.scene.Scene.{Scene}
+use Rattle.wm_flow.specs.declared.scene.Bases.{Bases}
+use Rattle.wm_flow.specs.declared.scene.Source.{Source}
+use Rattle.wm_flow.specs.declared.scene.Source.TheVariants.{Variable, Cells, Fixed}
+use Rattle.wm_flow.specs.Places.{Plan, bases_of, scalar_source, root_source, here_of, first_counter, temporary}
 
 -- the number of a scalar, where it is set
 abbrev pub ShowsNumber : List ℤ → ℕ → Option ℤ → Type 0

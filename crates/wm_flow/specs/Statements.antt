@@ -16,7 +16,9 @@ use Rattle.wm_flow.specs.declared.seats.LocalSeat.TheVariants as local_seat
 use Rattle.wm_flow.specs.Plain.{Doing, AssignForm, Clear, Reset, Turn, Tie}
 use Rattle.wm_flow.specs.Plain as plain
 use Rattle.wm_flow.specs.Kept.{form_of, is_side}
-use Rattle.wm_flow.specs.Places.{Plan, Scene, Bases, bases_of, temporary, counter, first_sum, scalar_place, local_seat_at, sums_in, head_of, is_named}
+use Rattle.wm_flow.specs.declared.scene.Scene.{Scene}
+use Rattle.wm_flow.specs.declared.scene.Bases.{Bases}
+use Rattle.wm_flow.specs.Places.{Plan, bases_of, temporary, counter, first_sum, scalar_place, local_seat_at, sums_in, head_of, is_named}
 use Rattle.wm_flow.specs.Strokes.{Stroke, Line, Begins, Turns, point, step, nothing}
 use Rattle.wm_flow.specs.Yields.{to_temporary}
 use Rattle.wm_flow.specs.Expressions.{value, size, strokes, behind, narrow_size, narrow_strokes}

@@ -5,7 +5,9 @@ use Rattle.wm_flow.specs.Plain.{Range, Doing, AssignForm, AssignRange, Read, Cle
 use Rattle.wm_flow.specs.Kept.{form_of}
 use Rattle.wm_flow.specs.declared.action.Combined.{Combined}
 use Rattle.wm_flow.specs.declared.kept.Kept.{Kept}
-use Rattle.wm_flow.specs.Places.{Plan, Scene, Bases, sums_in, head_of, bases_of}
+use Rattle.wm_flow.specs.declared.scene.Scene.{Scene}
+use Rattle.wm_flow.specs.declared.scene.Bases.{Bases}
+use Rattle.wm_flow.specs.Places.{Plan, sums_in, head_of, bases_of}
 use Rattle.wm_flow.specs.declared.seats.Tables.{Tables}
 
 pub data Stroke : Type 0 where

@@ -10,11 +10,16 @@ use Rattle.wm_program.specs.declared.tree.Comparison.{Comparison}
 use Rattle.wm_program.specs.declared.tree.Comparison.TheVariants as compare
 use Rattle.wm_program.specs.Tree.{Expression, Arguments, Test, Constant, Named, Element, Operator, Invoke, Plain, Negate, Plus, Cast, Always, Either, Both, Not, Compare, Truth}
 use Rattle.wm_flow.specs.declared.kept.Kept.{Kept}
+use Rattle.wm_flow.specs.declared.scene.Sides.{Sides}
 use Rattle.wm_flow.specs.Plain.{Doing, Keep}
 use Rattle.wm_flow.specs.Kept.{form_of, constant, variable, collected, negative_of, is_side, is_zero}
-use Rattle.wm_flow.specs.Places.{Plan, Scene, Bases, bases_of, temporary}
+use Rattle.wm_flow.specs.declared.scene.Scene.{Scene}
+use Rattle.wm_flow.specs.declared.scene.Bases.{Bases}
+use Rattle.wm_flow.specs.Places.{Plan, bases_of, temporary}
 use Rattle.wm_flow.specs.Strokes.{Stroke, Line, point, nothing}
-use Rattle.wm_flow.specs.Yields.{Held, Coming, coming, yielded, yield_size, yield_strokes, to_temporary, after}
+use Rattle.wm_flow.specs.declared.scene.Held.{Held}
+use Rattle.wm_flow.specs.declared.scene.Coming.{Coming}
+use Rattle.wm_flow.specs.Yields.{coming, yielded, yield_size, yield_strokes, to_temporary, after}
 use Rattle.wm_flow.specs.Expressions.{value, values_after, size, sizes, strokes, all_strokes, operate_size, operands, operate_strokes, no_values, left_waiting, only_value, behind}
 
 -- ---- comparisons
@@ -61,12 +66,6 @@ ways mark difference node hit miss =
     fork node hit (keeping mark difference) miss (keeping (other_way mark) difference)
 
 -- ---- the two sides: where their difference is no form, each side that is no variable and no constant goes to a temporary
-
--- two sides, with the temporaries in use
-pub record Sides : Type 0 where
-  pub left : Kept
-  pub right : Kept
-  pub temporaries : ℕ
 
 abbrev pub is_apart : Sides → Bool
 is_apart sides = is_none (collected sides.left true sides.right)

@@ -3,9 +3,13 @@
 use Rattle.std.specs.Prelude.{ℕ, suc, ◌+◌, Bool, true, false, ◌||◌, ◌&&◌, if◌then◌else◌, List, [], ◌∷◌, ◌++◌, Option, Some, None}
 use Rattle.wm_program.specs.Tree.{Expression, Arguments, Constant, Named, Element, Operator, Invoke, Plain, Negate, Plus, Cast, Done, Value, Whole, From}
 use Rattle.wm_flow.specs.declared.kept.Kept.{Kept}
+use Rattle.wm_flow.specs.declared.scene.Held.{Held}
+use Rattle.wm_flow.specs.declared.scene.Coming.{Coming}
 use Rattle.wm_flow.specs.Plain.{AssignForm}
 use Rattle.wm_flow.specs.Kept.{form_of, variable}
-use Rattle.wm_flow.specs.Places.{Plan, Scene, Bases, bases_of, temporary, has_static, has_overflow, is_named}
+use Rattle.wm_flow.specs.declared.scene.Scene.{Scene}
+use Rattle.wm_flow.specs.declared.scene.Bases.{Bases}
+use Rattle.wm_flow.specs.Places.{Plan, bases_of, temporary, has_static, has_overflow, is_named}
 use Rattle.wm_flow.specs.Strokes.{Stroke, step}
 
 -- ---- what an expression calls
@@ -48,11 +52,7 @@ abbrev mutual
 
 -- ---- values that wait
 
--- what comes: a call of a function, a call of an operator
-pub record Coming : Type 0 where
-  pub call : Bool
-  pub operator : Bool
-
+-- what comes
 abbrev pub coming : Expression → Coming
 coming x = record { call = calls x; operator = operates x }
 
@@ -62,11 +62,6 @@ own_operator = record { call = false; operator = true }
 
 unfoldable pub must_yield : Bases → Coming → Kept → Bool
 must_yield bases it kept = it.call && has_static bases kept || it.operator && has_overflow bases kept
-
--- values that wait, and how many temporaries are in use
-pub record Held : Type 0 where
-  pub values : List Kept
-  pub temporaries : ℕ
 
 abbrev pub before_value : Kept → Held → Held
 before_value kept held = record held { values = kept ∷ held.values }

@@ -2,8 +2,8 @@
 use wm_arrays::Summary;
 use wm_domain::{Form, Relation};
 use wm_interval::Interval;
-use wm_program::PlainMark;
 use wm_ops::{Counted, List, Op};
+use wm_program::PlainMark;
 
 /// The action of an edge. Variables and arrays are those of the source node; targets, parameters and counters are those
 /// of the target node. On every edge but an `Enter` and a `Leave` the group, the singles and the arrays of the two

@@ -3,8 +3,15 @@ use wm_domain::Term;
 
 /// The sum of at most two terms of different variables and a constant. Where there is one term it is the first.
 #[derive(Clone, Copy, Debug, PartialEq, Eq)]
-pub(crate) struct Kept {
-    pub(crate) first: Option<Term>,
-    pub(crate) second: Option<Term>,
-    pub(crate) constant: i64,
+pub struct Kept {
+    pub first: Option<Term>,
+    pub second: Option<Term>,
+    pub constant: i64,
+}
+
+/// At most two terms of different variables. Where there is one it is the first.
+#[derive(Clone, Copy, Debug, PartialEq, Eq)]
+pub struct Pair {
+    pub first: Option<Term>,
+    pub second: Option<Term>,
 }
