@@ -1,0 +1,4 @@
+pub mod Asking
+pub mod Seen
+pub mod Files
+pub mod Given
