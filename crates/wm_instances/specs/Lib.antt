@@ -1,0 +1,3 @@
+pub mod Constants
+pub mod Instances
+pub mod Totals
