@@ -2,3 +2,4 @@ pub mod Changes
 pub mod Forms
 pub mod Points
 pub mod States
+pub mod Terms

@@ -1,0 +1,4 @@
+pub mod Moving
+pub mod Nears
+pub mod Placing
+pub mod Sums
