@@ -1,0 +1,4 @@
+pub mod Following
+pub mod Images
+pub mod Operating
+pub mod Ranges
