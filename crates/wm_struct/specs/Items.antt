@@ -16,18 +16,18 @@ use Rattle.wm_lang.specs.declared.unit.StructObjects.{StructObjects}
 use Rattle.wm_lang.specs.declared.unit.Item.{Item}
 use Rattle.wm_lang.specs.declared.unit.Item.TheVariants as unit
 use Rattle.wm_lang.specs.declared.unit.Unit.{Unit as UnitTree}
-use Rattle.wm_struct.specs.declared.fault.StructFault.{StructFault}
-use Rattle.wm_struct.specs.declared.state.State.{State}
-use Rattle.wm_struct.specs.Expressions.{expanded}
-use Rattle.wm_struct.specs.Faults.{unless}
-use Rattle.wm_struct.specs.Making.{Making, ◌>>=◌, pure, after, more, behind}
-use Rattle.wm_struct.specs.Members.{StructMember}
+use Rattle.wm_members.specs.declared.fault.StructFault.{StructFault}
+use Rattle.wm_members.specs.declared.state.State.{State}
+use Rattle.wm_members.specs.Expressions.{expanded}
+use Rattle.wm_members.specs.Faults.{unless}
+use Rattle.wm_members.specs.Making.{Making, ◌>>=◌, pure, after, more, behind}
+use Rattle.wm_members.specs.Members.{StructMember}
 use Rattle.wm_struct.specs.Names.{declared_items}
-use Rattle.wm_struct.specs.Naming.{member_identifier}
+use Rattle.wm_members.specs.Naming.{member_identifier}
 use Rattle.wm_struct.specs.Parameters.{parameter_behind}
 use Rattle.wm_struct.specs.Statements.{declaration_made, items_expanded}
-use Rattle.wm_struct.specs.States.{at_start, entered, left, structure_number, members_at}
-use Rattle.wm_struct.specs.Tables.{all_of}
+use Rattle.wm_members.specs.States.{at_start, entered, left, structure_number, members_at}
+use Rattle.wm_members.specs.Tables.{all_of}
 
 -- ---- structs: the lengths of their members are looked at, and they declare no object
 
@@ -45,10 +45,13 @@ after_lengths (line ∷ lines) s = after_lengths lines (after_line line.declarat
 
 -- ---- struct objects: one object for each member
 
+abbrev pub scalar_declarator : Identifier → StructMember → Declarator
+scalar_declarator object m = declarator.Scalar (member_identifier object m.name.name) None
+
 -- an array has its bracket and the length that its member has
 abbrev pub bracket_declarator : Identifier → StructMember → Option Position → Option Expr → Making Declarator
-bracket_declarator object m None length = pure (declarator.Scalar (member_identifier object m.name.name) None)
-bracket_declarator object m (Some bracket) None = pure (declarator.Scalar (member_identifier object m.name.name) None)
+bracket_declarator object m None length = pure (scalar_declarator object m)
+bracket_declarator object m (Some bracket) None = pure (scalar_declarator object m)
 bracket_declarator object m (Some bracket) (Some length) =
     expanded length >>= λ l. pure (declarator.Array (member_identifier object m.name.name) bracket (Some l) None)
 

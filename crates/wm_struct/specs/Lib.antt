@@ -1,11 +1,4 @@
-pub mod Expressions
-pub mod Faults
 pub mod Items
-pub mod Making
-pub mod Members
 pub mod Names
-pub mod Naming
 pub mod Parameters
-pub mod States
 pub mod Statements
-pub mod Tables

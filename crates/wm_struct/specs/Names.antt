@@ -19,17 +19,17 @@ use Rattle.wm_lang.specs.declared.unit.Struct.{Struct}
 use Rattle.wm_lang.specs.declared.unit.StructObjects.{StructObjects}
 use Rattle.wm_lang.specs.declared.unit.Item.{Item}
 use Rattle.wm_lang.specs.declared.unit.Item.TheVariants as unit
-use Rattle.wm_struct.specs.declared.fault.Kind.TheVariants.{StructTwice, StructSize}
+use Rattle.wm_members.specs.declared.fault.Kind.TheVariants.{StructTwice, StructSize}
 use Rattle.wm_struct.specs.declared.names.Listing.{Listing}
-use Rattle.wm_struct.specs.declared.state.Meaning.TheVariants.{Object, Function as FunctionOf, Other}
-use Rattle.wm_struct.specs.declared.state.Slot.{Slot}
-use Rattle.wm_struct.specs.declared.state.Slot.TheVariants.{Plain, Struct as StructOf}
-use Rattle.wm_struct.specs.declared.state.State.{State}
-use Rattle.wm_struct.specs.Making.{Making, ◌>>=◌, pure, after, more, behind}
-use Rattle.wm_struct.specs.Members.{StructMember, scalar_member, array_member}
+use Rattle.wm_members.specs.declared.state.Meaning.TheVariants.{Object, Function as FunctionOf, Other}
+use Rattle.wm_members.specs.declared.state.Slot.{Slot}
+use Rattle.wm_members.specs.declared.state.Slot.TheVariants.{Plain, Struct as StructOf}
+use Rattle.wm_members.specs.declared.state.State.{State}
+use Rattle.wm_members.specs.Making.{Making, ◌>>=◌, pure, after, more, behind}
+use Rattle.wm_members.specs.Members.{StructMember, scalar_member, array_member}
 use Rattle.wm_struct.specs.Statements.{declares}
-use Rattle.wm_struct.specs.States.{Members, noted_where, declared, structure_number, structure_of}
-use Rattle.wm_struct.specs.Tables.{found, added}
+use Rattle.wm_members.specs.States.{Members, noted_where, declared, structure_number, structure_of}
+use Rattle.wm_members.specs.Tables.{found, added}
 
 -- ---- names around the file
 
@@ -43,7 +43,7 @@ is_outermost_word None name = bytes_eq name (codes "Overflow")
 is_outermost_word (Some word) name = is_plain_word word
 
 -- the name of an operator, a counting call or `Overflow`
-abbrev pub is_outermost : List ℕ → Bool
+unfoldable pub is_outermost : List ℕ → Bool
 is_outermost name = is_outermost_word (word_named name) name
 
 -- ---- structs

@@ -6,15 +6,15 @@ use Rattle.wm_lang.specs.declared.expression.Identifier.{Identifier}
 use Rattle.wm_lang.specs.declared.unit.ParameterKind.{ParameterKind}
 use Rattle.wm_lang.specs.declared.unit.ParameterKind.TheVariants.{Scalar, Array, Pointer, Struct}
 use Rattle.wm_lang.specs.declared.unit.Parameter.{Parameter}
-use Rattle.wm_struct.specs.declared.state.Meaning.{Meaning}
-use Rattle.wm_struct.specs.declared.state.Meaning.TheVariants.{Parameter as ParameterOf, Other}
-use Rattle.wm_struct.specs.declared.state.State.{State}
-use Rattle.wm_struct.specs.Expressions.{expanded}
-use Rattle.wm_struct.specs.Making.{Making, ◌>>=◌, pure, after, maybe, all_behind}
-use Rattle.wm_struct.specs.Members.{StructMember}
-use Rattle.wm_struct.specs.Naming.{member_identifier}
-use Rattle.wm_struct.specs.States.{Members, declared, structure_number, members_at}
-use Rattle.wm_struct.specs.Tables.{all_of}
+use Rattle.wm_members.specs.declared.state.Meaning.{Meaning}
+use Rattle.wm_members.specs.declared.state.Meaning.TheVariants.{Parameter as ParameterOf, Other}
+use Rattle.wm_members.specs.declared.state.State.{State}
+use Rattle.wm_members.specs.Expressions.{expanded}
+use Rattle.wm_members.specs.Making.{Making, ◌>>=◌, pure, after, maybe, all_behind}
+use Rattle.wm_members.specs.Members.{StructMember}
+use Rattle.wm_members.specs.Naming.{member_identifier}
+use Rattle.wm_members.specs.States.{Members, declared, structure_number, members_at}
+use Rattle.wm_members.specs.Tables.{all_of}
 
 abbrev pub plain_parameter : Parameter → ParameterKind → Parameter
 plain_parameter p kind = record { at = p.at; is_const = p.is_const; kind = kind; name = p.name }
@@ -48,11 +48,15 @@ abbrev pub struct_behind : Parameter → Option Identifier → Identifier → Li
 struct_behind p None structure done = pure done
 struct_behind p (Some name) structure done = λ s. views_behind p name (structure_number structure.name s) done s
 
+-- a parameter that is no struct parameter
+abbrev pub plain_behind : Parameter → ParameterKind → List Parameter → Making (List Parameter)
+plain_behind p kind done = after (declared_maybe p.name Other) (pure (done ++ plain_parameter p kind ∷ []))
+
 abbrev pub kind_behind : Parameter → ParameterKind → List Parameter → Making (List Parameter)
-kind_behind p (Scalar base) done = after (declared_maybe p.name Other) (pure (done ++ plain_parameter p (Scalar base) ∷ []))
+kind_behind p (Scalar base) done = plain_behind p (Scalar base) done
 kind_behind p (Array element bracket length) done =
-    maybe expanded length >>= λ l. after (declared_maybe p.name Other) (pure (done ++ plain_parameter p (Array element bracket l) ∷ []))
-kind_behind p (Pointer base) done = after (declared_maybe p.name Other) (pure (done ++ plain_parameter p (Pointer base) ∷ []))
+    maybe expanded length >>= λ l. plain_behind p (Array element bracket l) done
+kind_behind p (Pointer base) done = plain_behind p (Pointer base) done
 kind_behind p (Struct structure) done = struct_behind p p.name structure done
 
 abbrev pub parameter_behind : Parameter → List Parameter → Making (List Parameter)

@@ -21,12 +21,12 @@ use Rattle.wm_lang.specs.declared.statement.Statement.{Statement}
 use Rattle.wm_lang.specs.declared.statement.Statement.TheVariants as statement
 use Rattle.wm_lang.specs.declared.statement.Statement.TheOpen.{Statement-F}
 use Rattle.wm_lang.specs.declared.statement.Statement.TheFolds.{fold-Statement}
-use Rattle.wm_struct.specs.declared.state.Meaning.TheVariants.{Other}
-use Rattle.wm_struct.specs.declared.state.State.{State}
+use Rattle.wm_members.specs.declared.state.Meaning.TheVariants.{Other}
+use Rattle.wm_members.specs.declared.state.State.{State}
 use Rattle.wm_struct.specs.declared.statement.Head.{Head}
-use Rattle.wm_struct.specs.Expressions.{expanded, spot_seen, spot_made, call_seen, call_made}
-use Rattle.wm_struct.specs.Making.{Making, ◌>>=◌, pure, after, more, behind, maybe}
-use Rattle.wm_struct.specs.States.{declared, entered, left}
+use Rattle.wm_members.specs.Expressions.{expanded, spot_seen, spot_made, call_seen, call_made}
+use Rattle.wm_members.specs.Making.{Making, ◌>>=◌, pure, after, more, behind, maybe}
+use Rattle.wm_members.specs.States.{declared, entered, left}
 
 -- ---- statements without words of their own
 

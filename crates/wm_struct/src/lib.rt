@@ -1,16 +1,8 @@
-//! Definitions of the expansion of structs of scalars and arrays to plain objects and parameters: `specs/Items.antt` has the
-//! expanded unit, or the first struct fault. Beside them stand the types that they name and the order of the faults.
+//! Definitions of units without structs of scalars and arrays: `specs/Items.antt` has the expanded unit, or the first struct
+//! fault. Beside them stand the types that they name.
 #![tactic(auto)]
 
-mod expression;
-mod fault;
-mod handed;
-mod member;
 mod names;
-mod naming;
-mod spot;
-mod state;
 mod statement;
-mod table;
 
-pub use fault::StructFault;
+pub use wm_members::StructFault;

@@ -1,6 +1,5 @@
 // How far the members of a struct are listed.
-use crate::member::Member;
-use crate::table::Table;
+use wm_members::{Member, Table};
 
 /// The members of a struct so far, and how many more it may have.
 #[derive(Drop)]
