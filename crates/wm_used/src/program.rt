@@ -1,0 +1,44 @@
+// Counted words in programs.
+ghost use Rattle.std.specs.Prelude.{◌≡◌, slice_get};
+ghost use Rattle.wm_used.specs.Used.{in_function, in_instances, uses};
+
+use crate::body::in_statements;
+use wm_ops::{Counted, counted_number};
+use wm_program::{FunctionInfo, InstanceInfo, Program};
+
+fn in_function(functions: &[FunctionInfo], number: u32, word: usize, found: bool) -> bool
+    ensures { result ≡ in_function word (slice_get functions.now number) found }
+{
+    match functions.get(number as usize) {
+        Some(function) => in_statements(&function.body.statements, word, found),
+        None => found,
+    }
+}
+
+fn in_instances(
+    functions: &[FunctionInfo],
+    instances: &[InstanceInfo],
+    word: usize,
+    found: bool,
+) -> bool
+    ensures { result ≡ in_instances word functions.now instances.now found }
+{
+    let mut found = found;
+    for instance in instances {
+        found = in_function(functions, instance.function, word, found);
+    }
+    found
+}
+
+/// Whether the word stands in the body of a function that has an instance. It takes no memory.
+#[tactic(auto, unfolding(crate::specs::Used::uses))]
+pub fn uses(program: &Program, word: Counted) -> bool
+    ensures uses { result ≡ uses program.now word }
+{
+    in_instances(
+        program.functions.items(),
+        program.instances.items(),
+        counted_number(word),
+        false,
+    )
+}
