@@ -10,8 +10,8 @@ use crate::nearest::{first_at_or_above, last_at_or_below};
 use crate::steps::steps_of;
 use std::alloc::{AllocError, Global};
 use std::marker::Model;
-use wm_program::Program;
 use wm_ops::NoMemory;
+use wm_program::Program;
 
 /// The numbers at which bounds are looked for.
 #[derive(Debug, Drop)]

@@ -4,8 +4,8 @@ use std::alloc::Global;
 use std::test::Fail;
 use wm_interval::Interval;
 use wm_lang::{Name, Place};
-use wm_program::{InputInfo, LoopInfo, ObjectInfo, Program};
 use wm_ops::{List, Width};
+use wm_program::{InputInfo, LoopInfo, ObjectInfo, Program};
 
 /// An object of the program by its length and what it begins with.
 fn object(

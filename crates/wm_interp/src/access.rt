@@ -12,8 +12,8 @@ use crate::memory::Memory;
 use crate::numbers::clamp_to;
 use crate::scene::Scene;
 use crate::store::Store;
-use wm_program::{Array, Program, Root, Scalar};
 use wm_ops::Width;
+use wm_program::{Array, Program, Root, Scalar};
 
 /// A local of the scene's instance.
 pub(crate) fn own(at: &Scene, local: u32) -> Root

@@ -15,8 +15,8 @@ use crate::run::invoke;
 use crate::scene::Scene;
 use crate::store::Store;
 use std::alloc::Global;
-use wm_program::{End, Event, FrameResult, InputInfo, Inputs, ObjectInfo, Program, Root};
 use wm_ops::{List, NoMemory};
+use wm_program::{End, Event, FrameResult, InputInfo, Inputs, ObjectInfo, Program, Root};
 use wm_weights::Weights;
 
 /// How deep the recursion over the trees may go.

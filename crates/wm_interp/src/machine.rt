@@ -10,8 +10,8 @@ ghost use Rattle.wm_interp.specs.Standing.{code_in, weights_in, stand_of, ran_se
 
 use crate::frames::{Ran, first_run, next_run, shown};
 use std::alloc::Global;
-use wm_program::{FrameResult, Inputs, Program};
 use wm_ops::NoMemory;
+use wm_program::{FrameResult, Inputs, Program};
 use wm_weights::Weights;
 
 /// A machine over one store of cells, which runs the frames of a program one after another.

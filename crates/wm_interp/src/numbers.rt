@@ -7,9 +7,9 @@ ghost use Rattle.wm_numbers.specs.Within.{IsWord16, IsWord32};
 ghost use Rattle.wm_program.specs.Numbers.{plain_of, compares, cast_to, clamp_to, is_outside, natural};
 
 use crate::halt::Refusal;
-use wm_program::{Comparison, PlainMark};
 use wm_numbers::{MAX_16, MAX_32, MIN_16, MIN_32, clamp16, clamp32, floor_shift};
 use wm_ops::{Op, Width, arg_width, arity};
+use wm_program::{Comparison, PlainMark};
 
 /// Whether a number is none of 16 bits.
 #[tactic(auto, unfolding(wm_ops::specs::Clamping::leaves16))]

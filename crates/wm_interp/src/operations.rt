@@ -11,8 +11,8 @@ use crate::halt::{Halt, Location, Refusal};
 use crate::memory::Memory;
 use crate::numbers::{args_fit, is_outside, leaves16, leaves32, natural, plain};
 use crate::scene::Scene;
-use wm_program::{Array, Cause, End, PlainMark};
 use wm_ops::{ControlWord, Counted, Op, Outcome, apply};
+use wm_program::{Array, Cause, End, PlainMark};
 
 /// Counts a word.
 #[tactic(auto, unfolding(crate::specs::Seen::setting_of))]

@@ -20,11 +20,11 @@ use crate::operations::{
     view_from,
 };
 use crate::scene::Scene;
+use wm_ops::{ControlWord, Counted};
 use wm_program::{
     Call, Condition, Converted, Declared, End, Expr, Link, Passed, PlainMark, Scalar, Simple, Spot,
     Statement, View,
 };
-use wm_ops::{ControlWord, Counted};
 
 /// A loop, as it is turned.
 #[derive(Clone, Copy, Debug)]

@@ -5,11 +5,11 @@ use std::test::Fail;
 use wm_interp::{Cause, End, FrameResult, Machine};
 use wm_interval::Interval;
 use wm_lang::Name;
+use wm_ops::{CountCall, List, Op, Width};
 use wm_program::{
     Array, Body, Comparison, Condition, Converted, Declared, Expr, FunctionInfo, InputInfo, Inputs,
     InstanceInfo, LocalInfo, ObjectInfo, PlainMark, Program, Scalar, Simple, Spot, Statement,
 };
-use wm_ops::{CountCall, List, Op, Width};
 use wm_weights::all_ones;
 
 /// A scalar of static storage, of this width.

@@ -5,8 +5,8 @@ ghost use Rattle.wm_samples.specs.Cells.{form_seen};
 
 use crate::numbers::bytes_of;
 use wm_interval::Interval;
-use wm_program::{InputInfo, Program};
 use wm_ops::Width;
+use wm_program::{InputInfo, Program};
 
 /// The cells of an input: how many, their width, and the numbers that each may have.
 #[derive(Clone, Copy, Debug)]

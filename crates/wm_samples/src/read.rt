@@ -10,8 +10,8 @@ use crate::fault::SampleFault;
 use crate::numbers::{behind, bytes_of, number_in};
 use std::alloc::Global;
 use wm_interval::Interval;
-use wm_program::{Inputs, Program};
 use wm_ops::List;
+use wm_program::{Inputs, Program};
 
 /// The frames of a sample file. They follow each other; each has the inputs in the program's order, cell
 /// by cell, a cell of 16 bits in two bytes and one of 32 bits in four, least byte first, in two's

@@ -12,8 +12,8 @@ use std::collections::BTreeSet;
 use toml::{Table, Value};
 use wm_interval::Interval;
 use wm_lang::Name;
-use wm_program::RangeOf;
 use wm_ops::{List, NoMemory};
+use wm_program::RangeOf;
 
 /// The ranges of a table, in the byte order of its keys.
 pub(crate) fn ranges_in(alloc: Global, value: &Value) -> Result<Option<List<RangeOf>>, NoMemory>

@@ -18,8 +18,8 @@ use crate::values::{Kind, number_in, text_in};
 use std::alloc::Global;
 use toml::{Table, Value};
 use wm_lang::Name;
-use wm_program::{RangeOf, Spec};
 use wm_ops::List;
+use wm_program::{RangeOf, Spec};
 use wm_toml::{TableFault, read_table};
 
 /// The keys that a specification may have.
