@@ -1,0 +1,5 @@
+pub mod Declarations
+pub mod Lengths
+pub mod Simples
+pub mod Statements
+pub mod Works
