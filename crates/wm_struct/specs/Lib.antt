@@ -1,3 +1,4 @@
+pub mod Declarators
 pub mod Items
 pub mod Names
 pub mod Parameters
