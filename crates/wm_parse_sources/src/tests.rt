@@ -4,9 +4,9 @@ use sqlite_items::Boxed;
 use std::alloc::Global;
 use std::test::Fail;
 use wm_lang::{
-    AssignMark, Block, BlockItem, Declarator, EqualityMark, Expr, Item, MemberMark, ParameterKind,
-    ProductMark, RelationMark, Simple, Spot, SpotKind, Statement, StepMark, SumMark, Token,
-    UnaryMark, Unit, Word,
+    AssignMark, Block, BlockItem, Declarator, EqualityMark, Expr, Identifier, Item,
+    MemberDeclarator, MemberMark, Parameter, ParameterKind, ProductMark, RelationMark, Simple,
+    Spot, SpotKind, Statement, StepMark, SumMark, Token, UnaryMark, Unit, Word, Words,
 };
 use wm_lex::lex;
 use wm_parse::{ParseFault, parse};
@@ -980,6 +980,186 @@ const STATEMENTS: [(&str, &str, &str); 17] = [
 fn shapes_of_statements(rt: HostRuntime) -> Result<(), Fail> {
     for (what, text, expected) in &STATEMENTS {
         let found = statements(rt.alloc(), text)?;
+        assert_eq!(rt; found.as_str(), *expected, "{what}");
+    }
+    Ok(())
+}
+
+// ---- whole units
+
+/// Writes a name.
+fn write_name(out: &mut String, name: &Identifier) -> Result<(), Fail> {
+    for byte in name.name.bytes() {
+        out.push(*byte as char)?;
+    }
+    Ok(())
+}
+
+/// Writes the words before a type.
+fn write_words(out: &mut String, words: Words) -> Result<(), Fail> {
+    if words.is_extern {
+        out.push_str("extern ")?;
+    }
+    if words.is_static {
+        out.push_str("static ")?;
+    }
+    if words.is_const {
+        out.push_str("const ")?;
+    }
+    Ok(())
+}
+
+/// Writes a declared name, with what stands behind it.
+fn write_declared(out: &mut String, declarator: &Declarator) -> Result<(), Fail> {
+    out.push_str(" ")?;
+    match declarator {
+        Declarator::Scalar { name, .. } => write_name(out, name)?,
+        Declarator::Array { name, .. } => {
+            write_name(out, name)?;
+            out.push_str("[]")?;
+        }
+    }
+    Ok(())
+}
+
+/// Writes a parameter.
+fn write_parameter(alloc: Global, out: &mut String, parameter: &Parameter) -> Result<(), Fail> {
+    match &parameter.kind {
+        ParameterKind::Scalar(base) => out.push_str(format!(in alloc; "{base:?}")?.as_str())?,
+        ParameterKind::Array { element, .. } => {
+            out.push_str(format!(in alloc; "{element:?}[]")?.as_str())?;
+        }
+        ParameterKind::Pointer(base) => out.push_str(format!(in alloc; "{base:?}*")?.as_str())?,
+        ParameterKind::Struct(name) => {
+            write_name(out, name)?;
+            out.push_str("*")?;
+        }
+    }
+    if let Some(name) = &parameter.name {
+        out.push_str(" ")?;
+        write_name(out, name)?;
+    }
+    out.push_str(",")?;
+    Ok(())
+}
+
+/// Writes the outline of an item: what it declares, and of a block how many things it holds and its last token.
+fn write_item(alloc: Global, out: &mut String, item: &Item) -> Result<(), Fail> {
+    match item {
+        Item::Objects(declaration) => {
+            write_words(out, declaration.words)?;
+            let base = declaration.base;
+            out.push_str(format!(in alloc; "{base:?}")?.as_str())?;
+            for declarator in declaration.declarators.as_slice() {
+                write_declared(out, declarator)?;
+            }
+        }
+        Item::Function(function) => {
+            write_words(out, function.words)?;
+            match function.result {
+                None => out.push_str("void ")?,
+                Some(base) => out.push_str(format!(in alloc; "{base:?} ")?.as_str())?,
+            }
+            write_name(out, &function.name)?;
+            out.push_str("(")?;
+            for parameter in function.parameters.as_slice() {
+                write_parameter(alloc, out, parameter)?;
+            }
+            out.push_str(")")?;
+            if let Some(block) = &function.body {
+                let inside = block.items.as_slice().len();
+                let last = block.last.token;
+                out.push_str(format!(in alloc; " {inside} to {last}")?.as_str())?;
+            }
+        }
+        Item::Struct(structure) => {
+            out.push_str("struct ")?;
+            write_name(out, &structure.name)?;
+            for members in structure.members.as_slice() {
+                let base = members.base;
+                out.push_str(format!(in alloc; " {base:?}")?.as_str())?;
+                for member in members.declarators.as_slice() {
+                    out.push_str(" ")?;
+                    match member {
+                        MemberDeclarator::Scalar(name) => write_name(out, name)?,
+                        MemberDeclarator::Array { name, .. } => {
+                            write_name(out, name)?;
+                            out.push_str("[]")?;
+                        }
+                    }
+                }
+            }
+        }
+        Item::StructObjects(objects) => {
+            write_words(out, objects.words)?;
+            write_name(out, &objects.structure)?;
+            for name in objects.objects.as_slice() {
+                out.push_str(" ")?;
+                write_name(out, name)?;
+            }
+        }
+    }
+    out.push_str("; ")?;
+    Ok(())
+}
+
+/// The outline of a source.
+fn outline(alloc: Global, text: &str) -> Result<String, Fail> {
+    let tokens = tokens_of(alloc, text)?;
+    let mut out = String::new(alloc);
+    match parse(alloc, &tokens) {
+        Ok(unit) => {
+            for item in unit.items.items() {
+                write_item(alloc, &mut out, item)?;
+            }
+        }
+        Err(_) => out.push_str("refused")?,
+    }
+    Ok(out)
+}
+
+const PRE_EMPHASIS: &str =
+    "#include \"basic_op.h\"\n#define L_FRAME 80\nWord16 speech[L_FRAME];\nstatic Word16 buf[L_FRAME], wgt[L_FRAME];\nstatic Word16 mem, loud, hi, lo;\nvoid init(void) { mem = 0; move16(); loud = 0; move16(); }\nstatic void scale(Word16 in[], Word16 out[], Word16 n) {\n  Word16 i;\n  FOR (i = 0; i < n; i++) { out[i] = shr(in[i], 2); move16(); }\n}\nstatic void emph(Word16 in[], Word16 out[], Word16 n) {\n  Word16 i;\n  FOR (i = 0; i < n; i++) {\n    out[i] = sub(in[i], mult(mem, 22282)); move16();\n    mem = in[i]; move16();\n  }\n}\nstatic void split(Word32 L, Word16 *h, Word16 *l) {\n  *h = extract_h(L); move16();\n  *l = extract_l(L_msu(L_shr(L, 1), *h, 16384)); move16();\n}\nvoid frame(void) {\n  scale(speech, buf, L_FRAME);\n  emph(buf, wgt, L_FRAME);\n  split(L_mult(wgt[0], 8192), &hi, &lo);\n  IF (sub(hi, 100) > 0) { loud = add(loud, 1); move16(); }\n}\n";
+
+const OUTLINES: [(&str, &str, &str); 8] = [
+    (
+        "a pre-emphasis filter",
+        PRE_EMPHASIS,
+        "Word16 speech[]; static Word16 buf[] wgt[]; static Word16 mem loud hi lo; void init() 4 to 50; static void scale(Word16[] in,Word16[] out,Word16 n,) 2 to 106; static void emph(Word16[] in,Word16[] out,Word16 n,) 2 to 178; static void split(Word32 L,Word16* h,Word16* l,) 4 to 232; void frame() 4 to 302; ",
+    ),
+    (
+        "a struct as state",
+        "struct St { Word16 mem; Word16 buf[4]; };\nstruct St st;\nWord16 x;\nvoid put(struct St *p, Word16 v) { p->buf[0] = v; p->mem = shr(v, 1); }\nvoid frame(void) { put(&st, x); }\n",
+        "struct St Word16 mem Word16 buf[]; St st; Word16 x; void put(St* p,Word16 v,) 2 to 53; void frame() 1 to 68; ",
+    ),
+    (
+        "a dot behind a struct parameter",
+        "struct St { Word16 mem; Word16 buf[4]; };\nstruct St st;\nWord16 x;\nvoid put(struct St *p, Word16 v) { p->buf[0] = v; p.mem = shr(v, 1); }\nvoid frame(void) { put(&st, x); }\n",
+        "struct St Word16 mem Word16 buf[]; St st; Word16 x; void put(St* p,Word16 v,) 2 to 53; void frame() 1 to 68; ",
+    ),
+    (
+        "functions that call each other",
+        "Word16 g(Word16 a);\nWord16 f(Word16 a) { return g(a); }\nWord16 g(Word16 a) { return f(a); }\nvoid frame(void) { }",
+        "Word16 g(Word16 a,); Word16 f(Word16 a,) 1 to 20; Word16 g(Word16 a,) 1 to 34; void frame() 0 to 41; ",
+    ),
+    ("a long array", "Word16 a[65537];", "Word16 a[]; "),
+    (
+        "the least word as a cast",
+        "Word16 y;\nvoid frame(void) { y = (Word16)0x8000; }",
+        "Word16 y; void frame() 1 to 16; ",
+    ),
+    (
+        "words before a type, and parameters of each kind",
+        "extern const static Flag x; static struct S s, t; int f(const Word16 [3], Word32 *p, const struct S *, Flag);",
+        "extern static const Flag x; static S s t; Int f(Word16[],Word32* p,S*,Flag,); ",
+    ),
+    ("no byte", "", ""),
+];
+
+#[test]
+fn outlines_of_units(rt: HostRuntime) -> Result<(), Fail> {
+    for (what, text, expected) in &OUTLINES {
+        let found = outline(rt.alloc(), text)?;
         assert_eq!(rt; found.as_str(), *expected, "{what}");
     }
     Ok(())
