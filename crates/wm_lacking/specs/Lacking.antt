@@ -3,7 +3,7 @@ use Rattle.std.specs.Prelude.{ℕ, zero, suc, ◌+◌, Bool, true, false, ◌&&�
 use Rattle.wm_ops.specs.declared.words.Counted.{Counted}
 use Rattle.wm_ops.specs.Words.{word_numbered}
 use Rattle.wm_program.specs.declared.program.Program.{Program}
-use Rattle.wm_used.specs.Used.{uses}
+use Rattle.wm_program.specs.Used.{uses}
 use Rattle.wm_weights.specs.Table.{weight_of}
 
 abbrev pub is_absent : Option ℕ → Bool

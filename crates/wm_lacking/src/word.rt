@@ -4,7 +4,6 @@ ghost use Rattle.wm_lacking.specs.Lacking.{is_absent, lacks, lacks_one, lacking}
 
 use wm_ops::{COUNTED_WORDS, Counted, counted_at};
 use wm_program::Program;
-use wm_used::uses;
 use wm_weights::Weights;
 
 fn is_absent(weight: Option<u32>) -> bool
@@ -20,7 +19,7 @@ fn is_absent(weight: Option<u32>) -> bool
 fn lacks(program: &Program, weights: &Weights, word: Counted) -> bool
     ensures { result ≡ lacks program.now weights.now word }
 {
-    uses(program, word) && is_absent(weights.weight(word))
+    program.uses(word) && is_absent(weights.weight(word))
 }
 
 fn lacks_one(program: &Program, weights: &Weights, word: Option<Counted>) -> bool

@@ -10,4 +10,6 @@ pub mod Settings
 pub mod State
 pub mod Tree
 pub mod Trees
+pub mod Used
+pub mod UsedParts
 pub mod WellFormed

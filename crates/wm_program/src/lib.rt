@@ -8,6 +8,9 @@ mod program;
 mod results;
 mod spec;
 mod tree;
+mod words_in_bodies;
+mod words_in_expressions;
+mod words_in_program;
 
 pub use faults::{LinkFault, What};
 pub use inputs::Inputs;

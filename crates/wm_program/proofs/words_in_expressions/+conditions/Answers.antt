@@ -1,5 +1,5 @@
-use Rattle.wm_used.proofs.Chains.{or_found, and_found}
-use Rattle.wm_used.proofs.expression.+conditions.Goals as goal
+use Rattle.wm_program.proofs.Chains.{or_found, and_found}
+use Rattle.wm_program.proofs.words_in_expressions.+conditions.Goals as goal
 
 pub in_condition-returns-in-Or : goal.in_condition-returns-in-Or
 in_condition-returns-in-Or t c =

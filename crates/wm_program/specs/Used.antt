@@ -11,7 +11,7 @@ use Rattle.wm_program.specs.declared.program.InstanceInfo.{InstanceInfo}
 use Rattle.wm_program.specs.declared.program.Program.{Program}
 use Rattle.wm_program.specs.declared.tree.Link.{Link}
 use Rattle.wm_program.specs.Tree.{Expression, Arguments, Test, Target, Effect, Fresh, Tree, Constant, Named, Element, Operator, Invoke, Plain, Negate, Plus, Cast, Done, Value, Whole, From, Always, Either, Both, Not, Compare, Truth, Variable, Item, Assign, Update, Evaluate, Count, Given, Filled, Blank, Listed, Skip, Seq, Block, Empty, Declare, Act, If, IfElse, For, While, Do, Break, Continue, Return, Leave}
-use Rattle.wm_used.specs.Parts.{tree_all}
+use Rattle.wm_program.specs.UsedParts.{tree_all}
 
 -- the word of this number is this one
 abbrev pub is_word : ℕ → Counted → Bool → Bool

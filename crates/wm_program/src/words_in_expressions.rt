@@ -2,12 +2,12 @@
 // number stands here.
 ghost use Rattle.std.specs.Prelude.{◌≡◌, map};
 ghost use Rattle.wm_program.specs.Trees.{expression_of, test_of};
-ghost use Rattle.wm_used.specs.Parts.{operands_of, passed_in, plain_link};
-ghost use Rattle.wm_used.specs.Used.{is_word, in_expression, in_arguments, in_links, in_test, in_tests};
+ghost use Rattle.wm_program.specs.UsedParts.{operands_of, passed_in, plain_link};
+ghost use Rattle.wm_program.specs.Used.{is_word, in_expression, in_arguments, in_links, in_test, in_tests};
 
+use crate::tree::{Condition, Converted, Expr, Link, Passed, View};
 use sqlite_items::{Boxed, Items};
 use wm_ops::{Counted, counted_number};
-use wm_program::{Condition, Converted, Expr, Link, Passed, View};
 
 /// Whether the word is this one.
 pub(crate) fn is_word(word: usize, this: Counted, found: bool) -> bool

@@ -1,10 +1,10 @@
 // Counted words in programs.
 ghost use Rattle.std.specs.Prelude.{◌≡◌, slice_get};
-ghost use Rattle.wm_used.specs.Used.{in_function, in_instances, uses};
+ghost use Rattle.wm_program.specs.Used.{in_function, in_instances, uses};
 
-use crate::body::in_statements;
+use crate::program::{FunctionInfo, InstanceInfo, Program};
+use crate::words_in_bodies::in_statements;
 use wm_ops::{Counted, counted_number};
-use wm_program::{FunctionInfo, InstanceInfo, Program};
 
 fn in_function(functions: &[FunctionInfo], number: u32, word: usize, found: bool) -> bool
     ensures { result ≡ in_function word (slice_get functions.now number) found }
@@ -30,15 +30,17 @@ fn in_instances(
     found
 }
 
-/// Whether the word stands in the body of a function that has an instance. It takes no memory.
-#[tactic(auto, unfolding(crate::specs::Used::uses))]
-pub fn uses(program: &Program, word: Counted) -> bool
-    ensures uses { result ≡ uses program.now word }
-{
-    in_instances(
-        program.functions.items(),
-        program.instances.items(),
-        counted_number(word),
-        false,
-    )
+impl Program {
+    /// Whether the word stands in the body of a function that has an instance. It takes no memory.
+    #[tactic(auto, unfolding(crate::specs::Used::uses))]
+    pub fn uses(&self, word: Counted) -> bool
+        ensures uses { result ≡ uses self.now word }
+    {
+        in_instances(
+            self.functions.items(),
+            self.instances.items(),
+            counted_number(word),
+            false,
+        )
+    }
 }

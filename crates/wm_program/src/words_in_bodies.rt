@@ -3,13 +3,13 @@ ghost use Rattle.std.specs.Prelude.{◌≡◌, map};
 ghost use Rattle.std.specs.Option.{option_map_or};
 ghost use Rattle.wm_program.specs.Tree.{Always};
 ghost use Rattle.wm_program.specs.Trees.{target_of, effect_of, fresh_of, tree_of, test_of};
-ghost use Rattle.wm_used.specs.Parts.{tree_all};
-ghost use Rattle.wm_used.specs.Used.{is_control, in_target, in_effect, in_effects, in_fresh, in_all_fresh, in_test, in_tree};
+ghost use Rattle.wm_program.specs.UsedParts.{tree_all};
+ghost use Rattle.wm_program.specs.Used.{is_control, in_target, in_effect, in_effects, in_fresh, in_all_fresh, in_test, in_tree};
 
-use crate::expression::{in_condition, in_expression, is_word};
+use crate::tree::{Condition, Declared, Simple, Spot, Statement};
+use crate::words_in_expressions::{in_condition, in_expression, is_word};
 use sqlite_items::{Boxed, Items};
 use wm_ops::{ControlWord, Counted, counted_number};
-use wm_program::{Condition, Declared, Simple, Spot, Statement};
 
 /// Whether the word is this one, in capitals.
 fn is_control(word: usize, is_counted: bool, this: ControlWord, found: bool) -> bool

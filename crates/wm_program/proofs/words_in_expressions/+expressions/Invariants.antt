@@ -1,8 +1,8 @@
 -- What was found so far and what is left give what all gives.
 use Rattle.std.proofs.Common.{◌≡◌, drop, map}
-use Rattle.wm_used.specs.Parts.{operands_of, passed_in, plain_link}
-use Rattle.wm_used.specs.Used.{in_arguments, in_links}
-use Rattle.wm_used.proofs.expression.+expressions.Given as goal
+use Rattle.wm_program.specs.UsedParts.{operands_of, passed_in, plain_link}
+use Rattle.wm_program.specs.Used.{in_arguments, in_links}
+use Rattle.wm_program.proofs.words_in_expressions.+expressions.Given as goal
 
 abbrev pub invariant-in_operands-loop-argument : goal.invariant-in_operands-loop-argument
 invariant-in_operands-loop-argument l = in_arguments l.word (operands_of (drop l.argument-index l.argument-items)) l.found ≡ in_arguments l.word (operands_of l.arguments) l.fn.found

@@ -1,5 +1,5 @@
-use Rattle.wm_used.proofs.Chains.{chain_found}
-use Rattle.wm_used.proofs.expression.+expressions.Goals as goal
+use Rattle.wm_program.proofs.Chains.{chain_found}
+use Rattle.wm_program.proofs.words_in_expressions.+expressions.Goals as goal
 
 pub in_expression-returns-in-Chain : goal.in_expression-returns-in-Chain
 in_expression-returns-in-Chain t c =

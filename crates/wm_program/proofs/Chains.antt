@@ -11,8 +11,8 @@ use Rattle.wm_program.specs.declared.tree.Expr.TheFolds.{fold-roll-Expr}
 use Rattle.wm_program.specs.declared.tree.Condition.TheOpen.{Condition-F}
 use Rattle.wm_program.specs.declared.tree.Condition.TheFolds.{fold-roll-Condition}
 use Rattle.wm_program.specs.Trees.{chain_of, either_of, both_of, expression_of, expression_step, test_of, test_step}
-use Rattle.wm_used.specs.Parts.{plain_link}
-use Rattle.wm_used.specs.Used.{in_expression, in_links, in_test, in_tests}
+use Rattle.wm_program.specs.UsedParts.{plain_link}
+use Rattle.wm_program.specs.Used.{in_expression, in_links, in_test, in_tests}
 
 pub in_chain : (word : ℕ) (first : Expression) (rest : List (Link Expression)) (found : Bool) → in_expression word (chain_of first rest) found ≡ in_links word rest (in_expression word first found)
 in_chain word first [] found = refl
