@@ -6,7 +6,5 @@ mod given;
 mod grid;
 mod nearest;
 mod steps;
-#[cfg(test)]
-mod tests;
 
 pub use grid::Grid;

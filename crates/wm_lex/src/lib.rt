@@ -22,6 +22,3 @@ mod walk;
 pub use fault::LexFault;
 pub use laws::lex_laws;
 pub use lexing::lex;
-
-#[cfg(test)]
-mod tests;

@@ -6,8 +6,6 @@ mod input;
 mod samples;
 mod sources;
 mod specification;
-#[cfg(test)]
-mod tests;
 mod texts;
 mod weights;
 

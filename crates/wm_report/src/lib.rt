@@ -7,8 +7,6 @@ mod fault_line;
 mod gap_words;
 mod pieces;
 mod replay;
-#[cfg(test)]
-mod tests;
 mod words;
 
 pub use fault::{At, RunFault, SourceName};

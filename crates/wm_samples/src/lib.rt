@@ -5,8 +5,6 @@ mod cells;
 mod fault;
 mod numbers;
 mod read;
-#[cfg(test)]
-mod tests;
 
 pub use fault::SampleFault;
 pub use read::frames;

@@ -5,8 +5,6 @@ mod fault;
 mod inputs;
 mod lists;
 mod read;
-#[cfg(test)]
-mod tests;
 mod values;
 
 pub use fault::SpecFault;

@@ -3,8 +3,6 @@
 
 mod last;
 mod room;
-#[cfg(test)]
-mod tests;
 
 pub use last::last_uses;
 pub use room::width;

@@ -3,8 +3,6 @@
 
 mod fault;
 mod read;
-#[cfg(test)]
-mod tests;
 mod weights;
 
 pub use fault::WeightFault;

@@ -1,9 +1,9 @@
 // A graph of five nodes with a return and a back edge, and the worked widths.
-use crate::{last_uses, width};
 use std::alloc::Global;
 use std::test::Fail;
 use wm_flow::{Action, Edge, Graph, Head};
 use wm_ops::{List, NoMemory};
+use wm_uses::{last_uses, width};
 
 /// A return, where there is a call's node, and else an edge without effect.
 fn action(alloc: Global, call: Option<u32>) -> Action {

@@ -1,7 +1,7 @@
 // Grids of small programs, worked by hand.
-use crate::Grid;
 use std::alloc::Global;
 use std::test::Fail;
+use wm_grid::Grid;
 use wm_interval::Interval;
 use wm_lang::{Name, Place};
 use wm_ops::{List, Width};

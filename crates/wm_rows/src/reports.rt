@@ -1,11 +1,11 @@
 // The lines of refusals and the texts of replays, as worked by hand.
-use crate::{At, RunFault, SourceName, fault_text, replay_text, status_of};
 use std::alloc::Global;
 use std::test::Fail;
 use wm_cert::{End2, Gap, Line};
 use wm_lang::Name;
 use wm_ops::{ControlWord, Counted, List, Op};
 use wm_program::{Cause, End, Event, FrameResult, Program, What};
+use wm_report::{At, RunFault, SourceName, fault_text, replay_text, status_of};
 
 fn name(alloc: Global, bytes: &[u8]) -> Result<Name, Fail> {
     Ok(Name::new(alloc, bytes)?)

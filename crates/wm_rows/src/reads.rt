@@ -1,8 +1,8 @@
 // What the files of a call come to: each refusal once, as its line, and what is read where there is none.
-use crate::read_texts;
 use std::alloc::Global;
 use std::test::Fail;
 use wm_files::MemoryFiles;
+use wm_read::read_texts;
 use wm_report::fault_text;
 
 /// The files of a call that is not refused.

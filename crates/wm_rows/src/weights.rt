@@ -1,8 +1,8 @@
 // Weights files: what they give, and the first thing that is wrong with each.
-use crate::{WeightFault, Weights, all_ones, read_weights};
 use std::alloc::Global;
 use std::test::Fail;
 use wm_ops::{ControlWord, CountCall, Counted, Op};
+use wm_weights::{WeightFault, Weights, all_ones, read_weights};
 
 /// The weight of a word in a file, or the fault with its key, as text.
 fn told(alloc: Global, file: &[u8], word: Counted) -> Result<String, Fail> {

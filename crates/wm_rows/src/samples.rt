@@ -1,11 +1,11 @@
 // Sample files: the numbers of their frames, and what is wrong with others.
-use crate::{SampleFault, frames};
 use std::alloc::Global;
 use std::test::Fail;
 use wm_interval::Interval;
 use wm_lang::Name;
 use wm_ops::{List, Width};
 use wm_program::{InputInfo, ObjectInfo, Program};
+use wm_samples::{SampleFault, frames};
 
 /// An object of the program, and its range where it is an input.
 type Row = (Width, u32, Option<(i64, i64)>);

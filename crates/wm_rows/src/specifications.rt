@@ -1,9 +1,9 @@
 // Specifications: what they say, and the first thing that is wrong with others.
-use crate::{SpecFault, read_spec};
 use std::alloc::Global;
 use std::test::Fail;
 use wm_lang::Name;
 use wm_program::Spec;
+use wm_spec::{SpecFault, read_spec};
 
 fn text_of(bytes: &[u8]) -> &str {
     std::str::from_utf8(bytes).unwrap_or("?")

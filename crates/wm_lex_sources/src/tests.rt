@@ -1,10 +1,10 @@
 // Sources as tables: what stands in them, the text, and the tokens or the fault with their places, as line and column. A token is
 // written as the letter of its kind and its name, value or variant.
-use crate::{LexFault, lex};
 use std::alloc::Global;
 use std::process::Abort;
 use std::test::Fail;
 use wm_lang::{Place, Token, TokenKind};
+use wm_lex::{LexFault, lex};
 
 const ACCEPTED: [(&str, &[u8], &str); 55] = [
     ("hexadecimal wraps at 2^31", b"0xFFFF8000", "#-32768@1:1"),

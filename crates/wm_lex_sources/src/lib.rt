@@ -1,0 +1,5 @@
+//! Sources and their tokens: tests of the lexer.
+#![tactic(auto)]
+
+#[cfg(test)]
+mod tests;
