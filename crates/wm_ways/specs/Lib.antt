@@ -1,0 +1,4 @@
+pub mod Loops
+pub mod Numbers
+pub mod Sweeps
+pub mod Whole
