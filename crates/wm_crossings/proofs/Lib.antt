@@ -1,0 +1,4 @@
+mod Among
+mod Given
+mod Pieces
+mod Places
