@@ -1,0 +1,6 @@
+//! What a faultless reading of expressions gives fits the program.
+#![tactic(auto)]
+
+mod laws;
+
+pub use laws::value_laws;
