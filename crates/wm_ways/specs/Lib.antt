@@ -1,4 +1,5 @@
 pub mod Loops
 pub mod Numbers
+pub mod Paths
 pub mod Sweeps
 pub mod Whole
