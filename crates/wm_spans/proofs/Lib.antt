@@ -1,0 +1,11 @@
+pub mod Cutting
+pub mod Ends
+pub mod Joined
+pub mod Listed
+pub mod Loops
+pub mod Picked
+pub mod Raised
+pub mod Raising
+pub mod Summing
+pub mod Turns
+pub mod Writing

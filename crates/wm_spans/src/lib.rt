@@ -1,0 +1,11 @@
+//! Ranges of variables and summaries of arrays: the part of a state that relates nothing to anything else. Only the calls
+//! that are given an allocator take memory.
+#![tactic(auto)]
+
+mod drawing;
+mod joining;
+mod spans;
+mod terms;
+
+pub use spans::Spans;
+pub use terms::turned;
