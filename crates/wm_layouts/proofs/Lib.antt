@@ -1,0 +1,3 @@
+mod Paths
+mod Pieces
+pub mod Grown

@@ -1,0 +1,7 @@
+use Rattle.std.proofs.Common.{◌≡◌, ◌++◌, drop}
+use Rattle.wm_flow.specs.Layouts.{ranges_where, is_input}
+use Rattle.wm_layouts.specs.Ranges.{ranges_of}
+use Rattle.wm_layouts.proofs.objects.push_inputs.Given as goal
+
+abbrev pub invariant-loop-object : goal.invariant-loop-object
+invariant-loop-object l = ranges_of l.list ++ ranges_where is_input (drop l.object-index l.objects) ≡ ranges_of l.initial.list ++ ranges_where is_input l.objects
