@@ -1,0 +1,4 @@
+pub mod Bounds
+pub mod Edges
+pub mod Endless
+pub mod Turnings
