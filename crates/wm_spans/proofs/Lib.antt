@@ -1,11 +1,14 @@
 pub mod Cutting
 pub mod Ends
+pub mod Few
+pub mod Forming
 pub mod Joined
 pub mod Listed
 pub mod Loops
 pub mod Picked
 pub mod Raised
 pub mod Raising
+pub mod Sizes
 pub mod Summing
 pub mod Turns
 pub mod Writing

@@ -3,9 +3,12 @@
 #![tactic(auto)]
 
 mod drawing;
+mod forms;
 mod joining;
 mod spans;
+mod sums;
 mod terms;
 
+pub use forms::limits;
 pub use spans::Spans;
 pub use terms::turned;

@@ -1,7 +1,8 @@
 // Terms: a variable or its negative.
 
-ghost use Rattle.std.specs.Prelude.{◌≡◌, ◌<◌, ◌^◌, ◌↔◌, ℤ, neg_ℤ, length, if◌then◌else◌};
-ghost use Rattle.wm_interval.specs.Holds.{Holds, SizesBelow};
+ghost use Rattle.std.specs.Prelude.{◌≡◌, ◌<◌, ◌^◌, ◌↔◌, ℤ, neg_ℤ, false, length, if◌then◌else◌};
+ghost use Rattle.wm_interval.specs.Holds.{Holds, IsHullOf, SizesBelow};
+ghost use Rattle.wm_domain.specs.Points.{IsNarrow};
 ghost use Rattle.wm_domain.specs.Forms.{signed};
 
 use crate::spans::Spans;
@@ -9,9 +10,18 @@ use wm_domain::Term;
 use wm_interval::Interval;
 
 impl Spans {
-    ghost use Rattle.wm_spans.specs.Spanned.{In};
+    ghost use Rattle.wm_spans.specs.Spanned.{In, Kept};
     ghost use Rattle.wm_spans.specs.Exact.{Exactly};
-    ghost use Rattle.wm_domain.specs.Terms.{Ranged};
+    ghost use Rattle.wm_domain.specs.Terms.{IsTermValue, Ranged};
+
+    /// The least and the greatest value of the term, where there is a point. They are at most 2^31 in size.
+    pub fn term_range(&self, t: Term) -> Interval
+        requires inside { t.variable < length self.now.full }
+        ensures hull { self.now.empty ≡ false → IsHullOf (IsTermValue (In self.now) t) result }
+        ensures size { SizesBelow (2 ^ 32) result }
+    {
+        turned(self.range(t.variable as usize), t.negative)
+    }
 
     /// Keeps the points at which the term lies in `r`, whose ends are below 2^62 in size.
     pub fn cut_term(&mut self, t: Term, r: Interval)
