@@ -1,0 +1,4 @@
+pub mod IndexTests
+pub mod NamesRead
+pub mod Operates
+pub mod ValuesWait

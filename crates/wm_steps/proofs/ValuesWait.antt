@@ -1,0 +1,76 @@
+-- Values that wait, one after another.
+use Rattle.std.proofs.Common.{◌≡◌, ℕ, suc, ◌+◌, Bool, true, false, if◌then◌else◌, List, [], ◌∷◌, ◌++◌, refl, ap, sym, ◌∙◌, append_assoc, arith}
+use Rattle.std.specs.Prelude.{slice_index_or}
+use Rattle.wm_flow.specs.declared.kept.Kept.{Kept}
+use Rattle.wm_flow.specs.declared.scene.Bases.{Bases}
+use Rattle.wm_flow.specs.declared.scene.Coming.{Coming}
+use Rattle.wm_flow.specs.declared.scene.Held.{Held}
+use Rattle.wm_flow.specs.declared.scene.Scene.{Scene}
+use Rattle.wm_flow.specs.Kept.{variable}
+use Rattle.wm_flow.specs.Places.{Plan, bases_of, temporary}
+use Rattle.wm_flow.specs.Yields.{must_yield, yielded, yield_size, yield_strokes, to_temporary, before_value}
+use Rattle.wm_pen.specs.Ink.{Ink, put}
+use Rattle.wm_pen.proofs.Joins.{put_none, put_after}
+use Rattle.wm_steps.specs.declared.waits.Waiting.{Waiting}
+use Rattle.wm_steps.specs.Moves.{kept_away, waiting, yielding}
+use Rattle.wm_steps.specs.Values.{waited, waited_by}
+
+-- values that stand before others
+abbrev pub behind_values : List Kept → Held → Held
+behind_values values held = record held { values = values ++ held.values }
+
+pub yielded_none : (bases : Bases) (it : Coming) (temporaries : ℕ) → yielded bases it [] temporaries ≡ record { values = []; temporaries = temporaries }
+unfolding yielded
+yielded_none bases it temporaries = refl
+
+pub yielding_none : (plan : Plan) (scene : Scene) (it : Coming) (temporaries : ℕ) (ink : Ink) → yielding plan scene it [] temporaries ink ≡ ink
+unfolding yielding yield_size yield_strokes
+yielding_none plan scene it temporaries ink = put_none ink
+
+next_as : (must : Bool) (bases : Bases) (it : Coming) (values : List Kept) (kept : Kept) (rest : List Kept) (temporaries : ℕ) → behind_values values (if must then before_value (variable (temporary bases temporaries)) (yielded bases it rest (suc temporaries)) else before_value kept (yielded bases it rest temporaries)) ≡ behind_values (values ++ (waited_by must bases kept temporaries).value ∷ []) (yielded bases it rest (waited_by must bases kept temporaries).temporaries)
+next_as true bases it values kept rest temporaries = ap (λ all. record { values = all; temporaries = (yielded bases it rest (suc temporaries)).temporaries }) (sym (append_assoc values (variable (temporary bases temporaries) ∷ []) (yielded bases it rest (suc temporaries)).values))
+next_as false bases it values kept rest temporaries = ap (λ all. record { values = all; temporaries = (yielded bases it rest temporaries).temporaries }) (sym (append_assoc values (kept ∷ []) (yielded bases it rest temporaries).values))
+
+pub yielded_next : (bases : Bases) (it : Coming) (values : List Kept) (kept : Kept) (rest : List Kept) (temporaries : ℕ) → behind_values values (yielded bases it (kept ∷ rest) temporaries) ≡ behind_values (values ++ (waited bases it kept temporaries).value ∷ []) (yielded bases it rest (waited bases it kept temporaries).temporaries)
+unfolding yielded waited
+yielded_next bases it values kept rest temporaries = next_as (must_yield bases it kept) bases it values kept rest temporaries
+
+moves_as : (must : Bool) (plan : Plan) (scene : Scene) (it : Coming) (kept : Kept) (rest : List Kept) (temporaries : ℕ) (ink : Ink) → put (if must then suc (yield_size (bases_of plan scene) it rest) else yield_size (bases_of plan scene) it rest) (if must then to_temporary plan scene ink.node temporaries kept ++ yield_strokes plan scene it rest (suc ink.node) (suc temporaries) else yield_strokes plan scene it rest ink.node temporaries) ink ≡ yielding plan scene it rest (waited_by must (bases_of plan scene) kept temporaries).temporaries (if must then kept_away plan scene temporaries kept ink else ink)
+unfolding yielding kept_away
+moves_as true plan scene it kept rest temporaries ink =
+    let s = yield_size (bases_of plan scene) it rest in
+    let e : 1 + s ≡ suc s = omega arith in
+    let h : ink.node + 1 ≡ suc ink.node = omega arith in
+    sym (put_after 1 s (to_temporary plan scene ink.node temporaries kept) (λ node. yield_strokes plan scene it rest node (suc temporaries)) ink
+    ∙ (ap (λ n. put n (to_temporary plan scene ink.node temporaries kept ++ yield_strokes plan scene it rest (ink.node + 1) (suc temporaries)) ink) e
+    ∙ ap (λ n. put (suc s) (to_temporary plan scene ink.node temporaries kept ++ yield_strokes plan scene it rest n (suc temporaries)) ink) h))
+moves_as false plan scene it kept rest temporaries ink = refl
+
+pub yielding_next : (plan : Plan) (scene : Scene) (it : Coming) (kept : Kept) (rest : List Kept) (temporaries : ℕ) (ink : Ink) → yielding plan scene it (kept ∷ rest) temporaries ink ≡ yielding plan scene it rest (waited (bases_of plan scene) it kept temporaries).temporaries (waiting plan scene it kept temporaries ink)
+unfolding yielding waiting waited yield_size yield_strokes
+yielding_next plan scene it kept rest temporaries ink = moves_as (must_yield (bases_of plan scene) it kept) plan scene it kept rest temporaries ink
+
+-- one value alone
+pub one_waits : (plan : Plan) (scene : Scene) (it : Coming) (kept : Kept) (temporaries : ℕ) (ink : Ink) → waiting plan scene it kept temporaries ink ≡ yielding plan scene it (kept ∷ []) temporaries ink
+one_waits plan scene it kept temporaries ink =
+    sym (yielding_next plan scene it kept [] temporaries ink
+    ∙ yielding_none plan scene it (waited (bases_of plan scene) it kept temporaries).temporaries (waiting plan scene it kept temporaries ink))
+
+one_as : (must : Bool) (bases : Bases) (it : Coming) (kept : Kept) (temporaries : ℕ) (none : Kept) → slice_index_or (if must then before_value (variable (temporary bases temporaries)) (yielded bases it [] (suc temporaries)) else before_value kept (yielded bases it [] temporaries)).values 0 none ≡ (waited_by must bases kept temporaries).value
+unfolding yielded
+one_as true bases it kept temporaries none = refl
+one_as false bases it kept temporaries none = refl
+
+-- its value, and the temporaries in use
+pub one_value : (bases : Bases) (it : Coming) (kept : Kept) (temporaries : ℕ) (none : Kept) → slice_index_or (yielded bases it (kept ∷ []) temporaries).values 0 none ≡ (waited bases it kept temporaries).value
+unfolding yielded waited
+one_value bases it kept temporaries none = one_as (must_yield bases it kept) bases it kept temporaries none
+
+count_as : (must : Bool) (bases : Bases) (it : Coming) (kept : Kept) (temporaries : ℕ) → (if must then before_value (variable (temporary bases temporaries)) (yielded bases it [] (suc temporaries)) else before_value kept (yielded bases it [] temporaries)).temporaries ≡ (waited_by must bases kept temporaries).temporaries
+unfolding yielded
+count_as true bases it kept temporaries = refl
+count_as false bases it kept temporaries = refl
+
+pub one_count : (bases : Bases) (it : Coming) (kept : Kept) (temporaries : ℕ) → (yielded bases it (kept ∷ []) temporaries).temporaries ≡ (waited bases it kept temporaries).temporaries
+unfolding yielded waited
+one_count bases it kept temporaries = count_as (must_yield bases it kept) bases it kept temporaries
