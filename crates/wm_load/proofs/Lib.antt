@@ -1,0 +1,4 @@
+pub mod Backwards
+pub mod Refusals
+mod ProgramRead
+mod FilesLoaded

@@ -1,0 +1,6 @@
+pub mod Specification
+pub mod Linking
+pub mod Loaded
+pub mod Loading
+pub mod Replay
+pub mod Replaying
