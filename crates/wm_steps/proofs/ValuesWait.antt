@@ -15,25 +15,38 @@ use Rattle.wm_steps.specs.declared.waits.Waiting.{Waiting}
 use Rattle.wm_steps.specs.Moves.{kept_away, waiting, yielding}
 use Rattle.wm_steps.specs.Values.{waited, waited_by}
 
--- values that stand before others
-abbrev pub behind_values : List Kept → Held → Held
-behind_values values held = record held { values = values ++ held.values }
+-- ---- the values, and the temporaries in use
 
-pub yielded_none : (bases : Bases) (it : Coming) (temporaries : ℕ) → yielded bases it [] temporaries ≡ record { values = []; temporaries = temporaries }
+pub held_is : (held : Held) (values : List Kept) (count : ℕ) → values ≡ held.values → count ≡ held.temporaries → record { values = values; temporaries = count } ≡ held
+held_is held values count hv hc =
+    ap (λ (all : List Kept). record { values = all; temporaries = count }) hv
+    ∙ ap (λ n. record { values = held.values; temporaries = n }) hc
+
+pub none_values : (bases : Bases) (it : Coming) (temporaries : ℕ) → (yielded bases it [] temporaries).values ≡ []
 unfolding yielded
-yielded_none bases it temporaries = refl
+none_values bases it temporaries = refl
+
+pub none_count : (bases : Bases) (it : Coming) (temporaries : ℕ) → (yielded bases it [] temporaries).temporaries ≡ temporaries
+unfolding yielded
+none_count bases it temporaries = refl
+
+next_as : (must : Bool) (bases : Bases) (it : Coming) (kept : Kept) (rest : List Kept) (temporaries : ℕ) → (if must then before_value (variable (temporary bases temporaries)) (yielded bases it rest (suc temporaries)) else before_value kept (yielded bases it rest temporaries)) ≡ before_value (waited_by must bases kept temporaries).value (yielded bases it rest (waited_by must bases kept temporaries).temporaries)
+next_as true bases it kept rest temporaries = refl
+next_as false bases it kept rest temporaries = refl
+
+next_held : (bases : Bases) (it : Coming) (kept : Kept) (rest : List Kept) (temporaries : ℕ) → yielded bases it (kept ∷ rest) temporaries ≡ before_value (waited bases it kept temporaries).value (yielded bases it rest (waited bases it kept temporaries).temporaries)
+unfolding yielded waited
+next_held bases it kept rest temporaries = next_as (must_yield bases it kept) bases it kept rest temporaries
+
+pub next_values : (bases : Bases) (it : Coming) (kept : Kept) (rest : List Kept) (temporaries : ℕ) → (yielded bases it (kept ∷ rest) temporaries).values ≡ (waited bases it kept temporaries).value ∷ (yielded bases it rest (waited bases it kept temporaries).temporaries).values
+next_values bases it kept rest temporaries = ap (λ (held : Held). held.values) (next_held bases it kept rest temporaries)
+
+pub next_count : (bases : Bases) (it : Coming) (kept : Kept) (rest : List Kept) (temporaries : ℕ) → (yielded bases it (kept ∷ rest) temporaries).temporaries ≡ (yielded bases it rest (waited bases it kept temporaries).temporaries).temporaries
+next_count bases it kept rest temporaries = ap (λ (held : Held). held.temporaries) (next_held bases it kept rest temporaries)
 
 pub yielding_none : (plan : Plan) (scene : Scene) (it : Coming) (temporaries : ℕ) (ink : Ink) → yielding plan scene it [] temporaries ink ≡ ink
 unfolding yielding yield_size yield_strokes
 yielding_none plan scene it temporaries ink = put_none ink
-
-next_as : (must : Bool) (bases : Bases) (it : Coming) (values : List Kept) (kept : Kept) (rest : List Kept) (temporaries : ℕ) → behind_values values (if must then before_value (variable (temporary bases temporaries)) (yielded bases it rest (suc temporaries)) else before_value kept (yielded bases it rest temporaries)) ≡ behind_values (values ++ (waited_by must bases kept temporaries).value ∷ []) (yielded bases it rest (waited_by must bases kept temporaries).temporaries)
-next_as true bases it values kept rest temporaries = ap (λ all. record { values = all; temporaries = (yielded bases it rest (suc temporaries)).temporaries }) (sym (append_assoc values (variable (temporary bases temporaries) ∷ []) (yielded bases it rest (suc temporaries)).values))
-next_as false bases it values kept rest temporaries = ap (λ all. record { values = all; temporaries = (yielded bases it rest temporaries).temporaries }) (sym (append_assoc values (kept ∷ []) (yielded bases it rest temporaries).values))
-
-pub yielded_next : (bases : Bases) (it : Coming) (values : List Kept) (kept : Kept) (rest : List Kept) (temporaries : ℕ) → behind_values values (yielded bases it (kept ∷ rest) temporaries) ≡ behind_values (values ++ (waited bases it kept temporaries).value ∷ []) (yielded bases it rest (waited bases it kept temporaries).temporaries)
-unfolding yielded waited
-yielded_next bases it values kept rest temporaries = next_as (must_yield bases it kept) bases it values kept rest temporaries
 
 moves_as : (must : Bool) (plan : Plan) (scene : Scene) (it : Coming) (kept : Kept) (rest : List Kept) (temporaries : ℕ) (ink : Ink) → put (if must then suc (yield_size (bases_of plan scene) it rest) else yield_size (bases_of plan scene) it rest) (if must then to_temporary plan scene ink.node temporaries kept ++ yield_strokes plan scene it rest (suc ink.node) (suc temporaries) else yield_strokes plan scene it rest ink.node temporaries) ink ≡ yielding plan scene it rest (waited_by must (bases_of plan scene) kept temporaries).temporaries (if must then kept_away plan scene temporaries kept ink else ink)
 unfolding yielding kept_away

@@ -10,11 +10,12 @@ use Rattle.wm_flow.specs.declared.scene.Source.{Source}
 use Rattle.wm_flow.specs.Plain.{Doing, Count, Operate}
 use Rattle.wm_ops.specs.declared.words.Counted.TheVariants as counted
 use Rattle.wm_flow.specs.Places.{Plan, bases_of, overflow_place}
-use Rattle.wm_flow.specs.Strokes.{step}
+use Rattle.wm_flow.specs.Strokes.{step, tested}
+use Rattle.wm_flow.specs.declared.action.Combined.TheVariants.{Itself}
 use Rattle.wm_flow.specs.Yields as yields
 use Rattle.wm_flow.specs.Yields.{must_yield, yield_size, yield_strokes}
 use Rattle.wm_flow.specs.Expressions as expressions
-use Rattle.wm_flow.specs.Expressions.{moves, place_size, place_strokes, plain_strokes, narrow_size, narrow_strokes, operate_size, operate_strokes, argument_form, named_size, named_strokes}
+use Rattle.wm_flow.specs.Expressions.{moves, place_form, place_size, place_strokes, plain_strokes, narrow_size, narrow_strokes, operate_size, operate_strokes, argument_form, named_size, named_strokes}
 use Rattle.wm_pen.specs.Ink.{Ink, put}
 
 -- one edge to a new node
@@ -39,6 +40,12 @@ yielding plan scene it values temporaries ink =
 unfoldable pub moving : Plan → Scene → (offset index : Kept) → (temporaries : ℕ) → Ink → Ink
 moving plan scene offset index temporaries ink =
     if moves offset index then kept_away plan scene temporaries index ink else ink
+
+-- the test of an index, from `low` to `high`
+unfoldable pub place_doing : Plan → Scene → (offset index : Kept) → (temporaries : ℕ) → (low high : ℤ) → Doing
+place_doing plan scene offset index temporaries low high =
+    tested (place_form (bases_of plan scene) offset index temporaries)
+    (place_form (bases_of plan scene) offset index temporaries ∷ []) low high Itself
 
 -- an index is tested
 unfoldable pub placing : Plan → Scene → (offset index : Kept) → (low high : ℤ) → (site temporaries left : ℕ) → Ink → Ink

@@ -13,7 +13,7 @@ mod waits;
 pub use conversions::narrow;
 pub use marks::plain;
 pub use operators::{apply, value_at};
-pub use places::place_form;
+pub use places::{place, place_form};
 pub use reads::{interval, named, read, reading};
 pub use temporaries::{after, no_values, step, to_temporary, with_value};
 pub use tests::{tested_itself, tested_negative};
