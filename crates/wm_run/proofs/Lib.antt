@@ -9,5 +9,11 @@ mod Repeats
 mod ReportFacts
 mod Widening
 mod Puts
+mod Fair
+mod FaultStatus
+mod DecisionKinds
+mod Refusals
+mod Causes
 mod SoundReports
+mod Replays
 mod Told

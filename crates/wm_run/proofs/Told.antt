@@ -5,7 +5,11 @@ use Rattle.std.specs.FinMap.{get}
 use Rattle.std.proofs.lemmas.Bool.{le-ltb, lt-ltb}
 use Rattle.wm_files.specs.Outside.{Held, Rose}
 use Rattle.wm_run.specs.Specification.{source_name}
-use Rattle.wm_run.specs.Decision.{Decided, SpecificationNotYet, Words, Read, Bytes, TooLong, Failed, ReadGives, FromSource, AfterSpecification, FromSpecification, LeadsTo, with_source, prove_name, limit, told_read, read_in, told_source, told_specification, told_words, decision_of}
+use Rattle.wm_load.specs.Replaying.{replay_asked}
+use Rattle.wm_read.specs.Asking.{told}
+use Rattle.wm_read.proofs.Asked.{leads_told}
+use Rattle.wm_words.specs.Words.{Form, Prove, Check, Replay, Demo, Worst, Headroom, Observe, BadWords, form_of}
+use Rattle.wm_run.specs.Decision.{Decided, SpecificationNotYet, Read, Bytes, TooLong, Failed, ReadGives, FromSource, AfterSpecification, FromSpecification, FromReplay, FromForm, LeadsTo, with_source, limit, told_read, read_in, told_source, told_specification, replay_decision, told_form, decision_of}
 use Rattle.wm_run.specs.Ends.{Call, Decides, Put, EndsAsTold}
 
 too_long : (held : Option (List ℕ)) → IsSomeAnd held (λ bytes. limit < length bytes) → TooLong ≡ told_read held
@@ -35,10 +39,9 @@ specification_told pairs old new name (Bytes specification) d after = source_tol
 specification_told pairs old new name TooLong d after = inr after
 specification_told pairs old new name Failed d after = inr after
 
-words_told : (pairs : Held) (old new : ℕ) (name : Option (List ℕ)) (d : Decided)
-    → MatchOption name (d ≡ Words) (λ name. FromSpecification (Some pairs) old new name d) → Rose old new ⊎ (d ≡ told_words pairs name)
-words_told pairs old new None d leads = inr leads
-words_told pairs old new (Some name) d leads =
+named_told : (pairs : Held) (old new : ℕ) (name : List ℕ) (d : Decided) → FromSpecification (Some pairs) old new name d
+    → Rose old new ⊎ (d ≡ told_specification pairs name (read_in pairs name))
+named_told pairs old new name d leads =
     elim (read_told pairs old new name leads.0 leads.1) [
       | inl rose ↦ inl rose
       | inr same ↦
@@ -48,9 +51,27 @@ words_told pairs old new (Some name) d leads =
           ]
     ]
 
+replay_told : (pairs : Held) (old new : ℕ) (spec samples : List ℕ) (d : Decided) → FromReplay (Some pairs) old new spec samples d
+    → Rose old new ⊎ (d ≡ replay_decision (told pairs (replay_asked spec samples)))
+replay_told pairs old new spec samples d from =
+    elim (leads_told pairs old new (replay_asked spec samples) from.0 from.1) [
+      | inl rose ↦ inl rose
+      | inr is ↦ inr (from.2 ∙ ap replay_decision is)
+    ]
+
+form_told : (pairs : Held) (old new : ℕ) (d : Decided) (form : Form) → FromForm (Some pairs) old new form d → Rose old new ⊎ (d ≡ told_form pairs form)
+form_told pairs old new d (Prove name) leads = named_told pairs old new name d leads
+form_told pairs old new d (Replay spec samples) leads = replay_told pairs old new spec samples d leads
+form_told pairs old new d (Check name) leads = inr leads
+form_told pairs old new d (Demo stages) leads = inr leads
+form_told pairs old new d (Worst name) leads = inr leads
+form_told pairs old new d (Headroom name) leads = inr leads
+form_told pairs old new d (Observe spec samples) leads = inr leads
+form_told pairs old new d BadWords leads = inr leads
+
 decided_told : (words : List (List ℕ)) (pairs : Held) (old new : ℕ) (d : Decided) → LeadsTo words (Some pairs) old new d → Rose old new ⊎ (d ≡ decision_of words pairs)
 unfolding decision_of
-decided_told words pairs old new d leads = words_told pairs old new (prove_name words) d leads
+decided_told words pairs old new d leads = form_told pairs old new d (form_of words) leads
 
 ends_held : (call : Call) (held : Option Held) (d : Decided) (status : ℕ) → LeadsTo call.words held call.file_faults_before call.file_faults_after d → Put call d status
     → IfSome held (λ pairs. Rose call.file_faults_before call.file_faults_after ⊎ Put call (decision_of call.words pairs) status)

@@ -10,5 +10,6 @@ pub mod PlainOperators
 pub mod PlainSound
 pub mod PlainFindings
 pub mod Report
+pub mod Replay
 pub mod Decision
 pub mod Ends

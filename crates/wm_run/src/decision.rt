@@ -1,22 +1,27 @@
 //! What a call comes to, with its status and its text.
 
 ghost use Rattle.std.specs.Prelude.{◌≡◌, ◌≤◌, ◌++◌, codes, if◌then◌else◌, length, map, string_bytes, Some, IfOk, All};
-ghost use Rattle.std.specs.Option.{option_copied};
-ghost use Rattle.wm_run.specs.Decision.{Decided, ReadFailed, decided, IsOwn, status_of, text_of, prove_name, IsShort, read_of, with_program, with_source, FromSource, AfterSpecification, FromSpecification, LeadsTo};
+ghost use Rattle.wm_report.specs.Fault.{fault_text};
+ghost use Rattle.wm_run.specs.Decision.{Decided, ReadFailed, decided, IsOwn, status_of, text_of, IsShort, read_of, with_program, with_source, FromSource, AfterSpecification, FromSpecification, FromReplay, FromForm, LeadsTo};
 ghost use Rattle.wm_run.specs.Grammar.{program_of};
 ghost use Rattle.wm_run.specs.PlainProgram.{viewed, StepFits};
+ghost use Rattle.wm_words.specs.Seen.{seen};
 
 use crate::input::{Input, input_of};
 use crate::plain::Program;
 use crate::plain::findings::Findings;
 use crate::reader::program_of;
+use crate::replay::{refused, replayed};
 use crate::report::{is_all_safe, report_text};
 use crate::specification::source_name;
 use crate::unread::Unread;
 use std::alloc::{AllocError, Global};
 use wm_files::Files;
+use wm_load::replay_files;
+use wm_report::{RunFault, fault_text, status_of};
+use wm_words::{Command, read_words};
 
-/// What a call comes to: a report, or one fault.
+/// What a call comes to: a report, a replay, or one fault.
 #[derive(Drop)]
 pub enum Decision {
     /// The report of the findings of a program in a source file.
@@ -35,6 +40,14 @@ pub enum Decision {
     },
     /// The words are none that are known.
     Words,
+    /// The text of a replay.
+    Replayed {
+        text: Vec<u8>,
+    },
+    /// What refuses a replay.
+    Fault {
+        fault: RunFault,
+    },
 }
 
 impl Decision {
@@ -48,6 +61,8 @@ impl Decision {
             Decision::SpecificationNotYet => 3,
             Decision::ReadFailed { .. } => 5,
             Decision::Words => 8,
+            Decision::Replayed { .. } => 0,
+            Decision::Fault { fault } => status_of(fault),
         }
     }
 
@@ -66,6 +81,8 @@ impl Decision {
             Decision::SpecificationNotYet => Vec::from_slice(alloc, b"fault 3 NotYet\n"),
             Decision::ReadFailed { name } => read_line(alloc, name),
             Decision::Words => Vec::from_slice(alloc, b"fault 8 words\n"),
+            Decision::Replayed { text } => Vec::from_slice(alloc, text),
+            Decision::Fault { fault } => fault_line(alloc, fault),
         }
     }
 }
@@ -86,18 +103,13 @@ fn read_line(alloc: Global, name: &[u8]) -> Result<Vec<u8>, AllocError>
     Ok(line)
 }
 
-/// The specification's name where the words are `prove` and a name.
-fn prove_name(words: &[String]) -> Option<&[u8]>
-    ensures { option_copied result ≡ prove_name (map string_bytes words.now) }
+/// The line of a refusal.
+fn fault_line(alloc: Global, fault: &RunFault) -> Result<Vec<u8>, AllocError>
+    ensures { IfOk result (λ text. text.items ≡ fault_text fault.now) }
 {
-    match words {
-        [first, second] => {
-            if first.as_bytes() == b"prove".as_slice() {
-                return Some(second.as_bytes());
-            }
-            None
-        }
-        _ => None,
+    match fault_text(alloc, fault) {
+        Ok(text) => Ok(text),
+        Err(_) => Err(AllocError),
     }
 }
 
@@ -199,6 +211,50 @@ fn decide_specification<F: Files>(
     with_specification(alloc, name, input, files)
 }
 
+/// What the files of a replay come to.
+fn decide_replay<F: Files>(
+    alloc: Global,
+    spec: &[u8],
+    samples: &[u8],
+    files: &mut F,
+) -> Result<Decision, AllocError>
+    ensures leads { IfOk result (λ d. FromReplay (F.held files.old) (F.faults files.old) (F.faults files.new) spec.now samples.now (decided d)) }
+    ensures own { IfOk result (λ d. IsOwn (decided d)) }
+    ensures held { F.held files.new ≡ F.held files.old }
+    ensures count { F.faults files.old ≤ F.faults files.new }
+{
+    match replay_files(alloc, spec, samples, files) {
+        Ok(loaded) => replayed(alloc, &loaded),
+        Err(fault) => refused(fault),
+    }
+}
+
+/// What a command and the files come to.
+fn decide_command<F: Files>(
+    alloc: Global,
+    command: Command<'_>,
+    files: &mut F,
+) -> Result<Decision, AllocError>
+    ensures leads { IfOk result (λ d. FromForm (F.held files.old) (F.faults files.old) (F.faults files.new) (seen command.entry) (decided d)) }
+    ensures own { IfOk result (λ d. IsOwn (decided d)) }
+    ensures held { F.held files.new ≡ F.held files.old }
+    ensures count { F.faults files.old ≤ F.faults files.new }
+{
+    match command {
+        Command::Prove { spec } => decide_specification(alloc, spec.as_bytes(), files),
+        Command::Replay { spec, samples } => {
+            decide_replay(alloc, spec.as_bytes(), samples.as_bytes(), files)
+        }
+        // These commands do not stand yet.
+        Command::Check { .. } => Ok(Decision::Words),
+        Command::Demo { .. } => Ok(Decision::Words),
+        Command::Worst { .. } => Ok(Decision::Words),
+        Command::Headroom { .. } => Ok(Decision::Words),
+        Command::Observe { .. } => Ok(Decision::Words),
+        Command::BadWords => Ok(Decision::Words),
+    }
+}
+
 /// What the words and the files come to.
 pub fn decide<F: Files>(
     alloc: Global,
@@ -210,8 +266,5 @@ pub fn decide<F: Files>(
     ensures held { F.held files.new ≡ F.held files.old }
     ensures count { F.faults files.old ≤ F.faults files.new }
 {
-    match prove_name(words) {
-        Some(name) => decide_specification(alloc, name, files),
-        None => Ok(Decision::Words),
-    }
+    decide_command(alloc, read_words(words), files)
 }

@@ -6,10 +6,9 @@ mod decision;
 mod input;
 mod plain;
 mod reader;
+mod replay;
 mod report;
 mod specification;
-#[cfg(test)]
-mod tests;
 mod tokens;
 mod unread;
 
