@@ -9,7 +9,6 @@ ghost use Rattle.wm_domain.specs.States.{count_of, IsBare};
 ghost use Rattle.wm_domain.specs.Changes.{IsValueOf};
 ghost use Rattle.wm_trip.specs.Turns.{turns_up_to};
 
-
 use wm_domain::Domain;
 use wm_interval::Interval;
 
