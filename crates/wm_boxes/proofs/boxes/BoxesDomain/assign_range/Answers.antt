@@ -1,0 +1,17 @@
+use Rattle.std.proofs.Common.{refl}
+use Rattle.wm_spans.proofs.Forming.{exactly_left}
+use Rattle.wm_boxes.proofs.Least.{same_shape, leaves_keeps, leaves_least}
+use Rattle.wm_boxes.specs.Laws.{of_count}
+use Rattle.wm_boxes.proofs.boxes.BoxesDomain.assign_range.Goals as goal
+
+pub free-requires : goal.free-requires
+free-requires c = record { inside = of_count c.args.self.now.group c.args.self.now.spans c.args.v c.requires.inside }
+
+pub returns-clause-shape : goal.returns-clause-shape
+returns-clause-shape c = let l = exactly_left c.args.self.now.spans c.free.new.self _ c.free.ensures.full c.free.ensures.array_full c.free.ensures.points in same_shape c.args.self.now.group c.args.self.now.spans c.free.new.self l.full l.array_full
+
+pub returns-clause-sound : goal.returns-clause-sound
+returns-clause-sound c = leaves_keeps c.args.self.now.group c.args.self.now.spans _ _ refl (exactly_left c.args.self.now.spans c.free.new.self _ c.free.ensures.full c.free.ensures.array_full c.free.ensures.points)
+
+pub returns-clause-least : goal.returns-clause-least
+returns-clause-least c = leaves_least c.args.self.now.group c.args.self.now.spans _ _ refl (exactly_left c.args.self.now.spans c.free.new.self _ c.free.ensures.full c.free.ensures.array_full c.free.ensures.points)
