@@ -9,12 +9,14 @@ mod reads;
 mod temporaries;
 mod tests;
 mod waits;
+mod yields;
 
 pub use conversions::narrow;
 pub use marks::plain;
-pub use operators::{apply, value_at};
+pub use operators::{apply, operands, operate, value_at};
 pub use places::{place, place_form};
 pub use reads::{interval, named, read, reading};
 pub use temporaries::{after, no_values, step, to_temporary, with_value};
 pub use tests::{tested_itself, tested_negative};
 pub use waits::{Waiting, wait_left};
+pub use yields::yielded;
