@@ -3,8 +3,6 @@
 
 mod state_line;
 mod summary;
-#[cfg(test)]
-mod tests;
 
 pub use state_line::StateLine;
 pub use summary::Summary;

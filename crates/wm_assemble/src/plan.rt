@@ -12,7 +12,7 @@ use wm_program::{FunctionInfo, InstanceInfo, Spec};
 use wm_scope::CallPlace;
 
 /// The calls of each function, that of the function that chooses among them, and the functions that are called first.
-#[derive(Debug, Drop)]
+#[derive(Drop)]
 pub(crate) struct Plan {
     pub(crate) calls: List<List<CallPlace>>,
     pub(crate) init: Option<u32>,
@@ -22,7 +22,7 @@ pub(crate) struct Plan {
 }
 
 /// The instances, and the numbers of those that nobody calls.
-#[derive(Debug, Drop)]
+#[derive(Drop)]
 pub struct Laid {
     pub instances: List<InstanceInfo>,
     pub init: Option<u32>,
@@ -30,7 +30,7 @@ pub struct Laid {
 }
 
 /// What a first way through a unit without faults tells.
-#[derive(Debug, Drop)]
+#[derive(Drop)]
 pub struct Started {
     pub laid: Laid,
     /// The numbers of the frame functions.

@@ -11,7 +11,7 @@ use wm_program::{LocalInfo, LoopInfo, ObjectInfo, What};
 use wm_scope::{Meaning, Names, Scope, TokenFault};
 
 /// What stands while a unit is read.
-#[derive(Debug, Drop)]
+#[derive(Drop)]
 pub struct Work {
     pub scope: Scope,
     pub marks: Marks,

@@ -1,5 +1,5 @@
 -- What is told of a box, and what writes and joins leave of it.
-use Rattle.std.proofs.Common.{◌≡◌, inl, inr, ℕ, ◌<◌, ℤ, List, length, Bool, false, true, sym, ◌∙◌, ap, subst, refl, Some, None, Option}
+use Rattle.std.proofs.Common.{◌≡◌, inl, inr, ℕ, ◌<◌, ℤ, List, [], ◌∷◌, length, Bool, false, true, sym, ◌∙◌, ap, subst, refl, Some, None, Option}
 use Rattle.std.specs.Prelude.{◌↔◌, IsTrue}
 use Rattle.std.proofs.lemmas.Bool.{cases_eq}
 use Rattle.wm_numbers.proofs.Order.{le_refl, le_of_eq, low_within, high_within}
@@ -9,7 +9,8 @@ use Rattle.wm_arrays.specs.declared.summary.Summary.{Summary}
 use Rattle.wm_arrays.specs.declared.summary.Summary.TheVariants.{Empty, Range}
 use Rattle.wm_arrays.specs.Meaning.{Allows, IsLeastFor}
 use Rattle.wm_domain.specs.Points.{Point, range_at, IsInside, AllowsCell}
-use Rattle.wm_domain.specs.Forms.{signed}
+use Rattle.wm_domain.specs.declared.form.Term.{Term}
+use Rattle.wm_domain.specs.Forms.{signed, IsSimple, AreBounded}
 use Rattle.wm_domain.specs.Changes.{Written, Near, InEither, IsCellOf}
 use Rattle.wm_domain.specs.Terms.{NearTerm}
 use Rattle.wm_domain.specs.States.{IsCellTold}
@@ -133,3 +134,14 @@ near_of_term s t v w d r l = record {
   spanned = λ p i. spanned_as (length s.full) (length s.array_full) (Inside s (NearTerm (In s) v (record { variable = w; negative = false }) d r)) (Inside s (Near (In s) v w d r)) p
       (λ q n. record { is = record { was = n.is.was; point = n.is.point; others = n.is.others; value = n.is.value; near = n.is.near }; inside = n.inside }) (l.spanned p i);
 }
+
+-- ---- forms whose bounds are kept
+
+no_pairs : {P : Type 0} → IsTrue false → P
+no_pairs t = cc
+
+-- where no bounds on pairs are kept, those of at most one term
+pub simple_bounded : (n : ℕ) (ts : List Term) → AreBounded false n ts → IsSimple ts
+simple_bounded n [] h = tt
+simple_bounded n (t ∷ []) h = tt
+simple_bounded n (t ∷ u ∷ rest) h = no_pairs h.0

@@ -3,8 +3,6 @@
 
 mod back;
 mod rounds;
-#[cfg(test)]
-mod tests;
 mod trees;
 
 pub use back::recursion;

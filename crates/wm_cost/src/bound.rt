@@ -22,7 +22,7 @@ fn told(weight: u64) -> Bound
 }
 
 /// The marks with one more.
-fn with_mark(alloc: Global, marks: &[bool], node: u32) -> Result<Vec<bool>, AllocError>
+pub fn with_mark(alloc: Global, marks: &[bool], node: u32) -> Result<Vec<bool>, AllocError>
     ensures { IfOk result (λ all. all.items ≡ slice_set marks.now node true) }
 {
     let mut all = Vec::new(alloc);

@@ -6,4 +6,6 @@ mod endless;
 mod turnings;
 mod weighing;
 
-pub use bound::frame_bound;
+pub use bound::{frame_bound, with_mark};
+pub use turnings::{source_at, turnings_of};
+pub use weighing::{ways_of, word_of};

@@ -53,6 +53,7 @@ fn push_turning(
     }
 }
 
+/// The loops of a graph whose number of turns is bounded. `turns` has an entry for each head.
 pub fn turnings_of(
     alloc: Global,
     edges: &[Edge],

@@ -9,7 +9,7 @@ use wm_ways::Way;
 use wm_weights::Weights;
 
 /// The word that an action counts.
-fn word_of(action: &Action) -> Option<Counted>
+pub fn word_of(action: &Action) -> Option<Counted>
     ensures { result ≡ word_of action.now }
 {
     match action {
@@ -78,6 +78,7 @@ fn way_of(weights: &Weights, live: bool, edge: &Edge) -> Way
     }
 }
 
+/// The edges of a graph as paths see them. `live` has an entry for each edge.
 pub fn ways_of(
     alloc: Global,
     weights: &Weights,

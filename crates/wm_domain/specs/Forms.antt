@@ -1,5 +1,5 @@
 -- The values of forms.
-use Rattle.std.specs.Prelude.{ℕ, ◌≢◌, ◌<◌, ◌^◌, Bool, true, false, ℤ, pos, neg_ℤ, ◌+ℤ◌, List, [], ◌∷◌, unsigned_abs}
+use Rattle.std.specs.Prelude.{ℕ, ◌≢◌, ◌<◌, ◌^◌, Bool, true, false, IsTrue, ℤ, pos, neg_ℤ, ◌+ℤ◌, List, [], ◌∷◌, unsigned_abs}
 use Rattle.wm_domain.specs.declared.form.Term.{Term}
 use Rattle.wm_domain.specs.declared.form.Form.{Form}
 
@@ -34,3 +34,10 @@ abbrev pub IsSimple : List Term → Type 0
 IsSimple [] = Unit {0}
 IsSimple (t ∷ []) = Unit {0}
 IsSimple (t ∷ u ∷ rest) = ⊥
+
+-- a form whose bounds a state keeps as they are: of at most one term or, where there are bounds on pairs, of two among the
+-- first n variables, which are the group
+abbrev pub AreBounded : Bool → ℕ → List Term → Type 0
+AreBounded pairs n [] = Unit {0}
+AreBounded pairs n (t ∷ []) = Unit {0}
+AreBounded pairs n (t ∷ u ∷ rest) = IsTrue pairs × (t.variable < n) × (u.variable < n)

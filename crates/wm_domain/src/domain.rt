@@ -5,7 +5,7 @@ ghost use Rattle.std.specs.Prelude.{◌≡◌, ◌↔◌, ℕ, ◌<◌, Bool, Is
 ghost use Rattle.wm_interval.specs.Holds.{IsHullOf};
 ghost use Rattle.wm_arrays.specs.Meaning.{IsLeastFor};
 ghost use Rattle.wm_domain.specs.Points.{Point, Alike, range_at};
-ghost use Rattle.wm_domain.specs.Forms.{IsForm, IsSimple};
+ghost use Rattle.wm_domain.specs.Forms.{IsForm, IsSimple, AreBounded};
 ghost use Rattle.wm_domain.specs.States.{count_of, array_count, IsShape, InShape, IsSized, Keeps, IsLeast, IsBare, IsTold};
 ghost use Rattle.wm_domain.specs.Changes.{IsUnset, Projected, ArePicks, Kept, Freed, Assigned, Near, ArraySet, Written, InEither, IsValueOf, IsFormValue, IsCellOf};
 
@@ -37,7 +37,8 @@ pub trait Domain: Sized + Drop {
         requires shape { IsShape shape.now }
         ensures shape { IfOk result (λ s. shape_of s ≡ shape.now) }
         ensures sound { IfOk result (λ s. Keeps holds shape_of s (IsUnset shape.now)) }
-        ensures least { IfOk result (λ s. IsLeast holds shape_of s (IsUnset shape.now)) };
+        ensures least { IfOk result (λ s. IsLeast holds shape_of s (IsUnset shape.now)) }
+        ensures unset { IfOk result (λ s. (p : Point) → holds s p → IsUnset shape.now p) };
 
     /// The same state once more: its points are the same.
     fn copy(&self, alloc: Global) -> Result<Self, NoMemory>
@@ -88,7 +89,11 @@ pub trait Domain: Sized + Drop {
         requires form { IsForm (count_of (shape_of self.old)) f.now }
         ensures shape { shape_of self.new ≡ shape_of self.old }
         ensures sound { Keeps holds shape_of self.new (Kept (holds self.old) f.now r) }
-        ensures least { IsLeast holds shape_of self.new (Kept (holds self.old) f.now r) };
+        ensures least { IsLeast holds shape_of self.new (Kept (holds self.old) f.now r) }
+        ensures fewer { (p : Point) → holds self.new p → holds self.old p }
+
+        // exactly the points that were wanted, where the form is one whose bounds are kept as they are
+        ensures made { AreBounded PAIRS (length (shape_of self.old).group) f.now.terms → (p : Point) → holds self.new p → Kept (holds self.old) f.now r p };
 
     /// Sets variable `v` to the value of the form, which has at most one term.
     fn assign_form(&mut self, v: u32, f: &Form)
@@ -127,7 +132,8 @@ pub trait Domain: Sized + Drop {
         requires inside { a < array_count (shape_of self.old) }
         ensures shape { shape_of self.new ≡ shape_of self.old }
         ensures sound { Keeps holds shape_of self.new (ArraySet (holds self.old) a s) }
-        ensures least { IsLeast holds shape_of self.new (ArraySet (holds self.old) a s) };
+        ensures least { IsLeast holds shape_of self.new (ArraySet (holds self.old) a s) }
+        ensures made { (p : Point) → holds self.new p → ArraySet (holds self.old) a s p };
 
     /// Writes a number of `r` to some cell of array `a`, which has `length` cells.
     fn write(&mut self, a: u32, r: Interval, length: u32)

@@ -9,7 +9,7 @@ use wm_program::PlainMark;
 /// of the target node. On every edge but an `Enter` and a `Leave` the group, the singles and the arrays of the two
 /// nodes are paired each by place; what only the source has is dropped, and what only the target has begins with its
 /// full range.
-#[derive(Debug, Drop)]
+#[derive(Drop)]
 pub enum Action {
     /// The target gets the value of the form.
     AssignForm {
@@ -129,7 +129,7 @@ pub enum Combined {
 }
 
 /// A parameter and the value that a call gives it.
-#[derive(Debug, Drop)]
+#[derive(Drop)]
 pub struct Argument {
     pub parameter: u32,
     pub form: Form,
@@ -150,7 +150,7 @@ pub struct Growth {
 }
 
 /// An input's variable or array, and its range.
-#[derive(Clone, Copy, Debug)]
+#[derive(Clone, Copy)]
 pub struct Given {
     pub target: u32,
     pub range: Interval,

@@ -15,7 +15,7 @@ pub struct Sum {
 }
 
 /// The expanded graph of a program. What is numbered is numbered from 0.
-#[derive(Debug, Drop)]
+#[derive(Drop)]
 pub struct Graph {
     pub shapes: List<Shape>,
     /// The shape of each node.
@@ -31,7 +31,7 @@ pub struct Graph {
 }
 
 /// An edge.
-#[derive(Debug, Drop)]
+#[derive(Drop)]
 pub struct Edge {
     pub source: u32,
     pub target: u32,
@@ -55,7 +55,7 @@ pub struct Head {
 }
 
 /// What an accepted certificate tells of a graph: one entry per head, edge and node.
-#[derive(Debug, Drop)]
+#[derive(Drop)]
 pub struct Facts {
     /// How many turns the loop of a head makes at most; none at the frame head, where no number bounds them, and where
     /// the head's state has no point.

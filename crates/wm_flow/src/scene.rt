@@ -34,7 +34,7 @@ pub enum Source {
 }
 
 /// Values that wait, and how many temporaries are in use.
-#[derive(Debug, Drop)]
+#[derive(Drop)]
 pub struct Held {
     pub values: List<Kept>,
     pub temporaries: u32,

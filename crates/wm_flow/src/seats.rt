@@ -39,7 +39,7 @@ pub struct LocalCounts {
 }
 
 /// What is told once of a whole program, so that each name is looked up and not searched.
-#[derive(Debug, Drop)]
+#[derive(Drop)]
 pub struct Tables {
     /// By object.
     pub objects: List<Seat>,

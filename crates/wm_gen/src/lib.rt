@@ -3,8 +3,6 @@
 
 mod files;
 mod lines;
-#[cfg(test)]
-mod tests;
 mod text;
 mod writing;
 

@@ -14,7 +14,7 @@ use wm_ops::NoMemory;
 use wm_program::Program;
 
 /// The numbers at which bounds are looked for.
-#[derive(Debug, Drop)]
+#[derive(Drop)]
 pub struct Grid {
     numbers: Vec<i64>,
 }

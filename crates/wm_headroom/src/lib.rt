@@ -5,9 +5,6 @@ ghost use Rattle.std.specs.Prelude.{◌≡◌, ◌<◌};
 ghost use Rattle.wm_hull.specs.Boxes.{BoxesFit, used_box};
 ghost use Rattle.wm_headroom.specs.Headroom as rooms;
 
-#[cfg(test)]
-mod tests;
-
 use wm_hull::worst;
 use wm_interval::Interval;
 use wm_numbers::floor_shift;

@@ -19,8 +19,6 @@ mod ranges;
 mod shifts;
 mod sums;
 mod table;
-#[cfg(test)]
-mod tests;
 
 use wm_interval::Interval;
 use wm_ops::{Op, arity};

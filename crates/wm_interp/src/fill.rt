@@ -5,7 +5,7 @@ ghost use Rattle.wm_program.specs.Execution.{take_fill, rest_of};
 use std::marker::Model;
 
 /// The fill list, which contracts see as the numbers that are left.
-#[derive(Debug, Drop)]
+#[derive(Drop)]
 pub(crate) struct Fill {
     numbers: Vec<i64>,
     taken: usize,

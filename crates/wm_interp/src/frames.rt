@@ -23,7 +23,7 @@ use wm_weights::Weights;
 const DEPTH: u64 = 1_000_000_000_000;
 
 /// What is held between frames, and how the run has halted.
-#[derive(Debug, Drop)]
+#[derive(Drop)]
 pub(crate) struct Ran {
     pub(crate) memory: Memory,
     pub(crate) halted: Option<End>,

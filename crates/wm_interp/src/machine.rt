@@ -15,7 +15,7 @@ use wm_program::{FrameResult, Inputs, Program};
 use wm_weights::Weights;
 
 /// A machine over one store of cells, which runs the frames of a program one after another.
-#[derive(Debug, Drop)]
+#[derive(Drop)]
 pub struct Machine<'p> {
     program: &'p Program,
     weights: &'p Weights,

@@ -14,7 +14,7 @@ use wm_program::{Cause, End, Event};
 
 /// The cells of all variables, the flag `Overflow`, the rest of the fill list, the steps that are left, the count and the
 /// failures.
-#[derive(Debug, Drop)]
+#[derive(Drop)]
 pub(crate) struct Memory {
     pub(crate) objects: Store,
     /// The locals of each instance; of one that was never called there are none.

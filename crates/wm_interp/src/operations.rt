@@ -95,7 +95,7 @@ pub(crate) fn negated(memory: &mut Memory, site: u32, z: i64) -> Result<i64, Hal
 }
 
 /// The numbers that an operator takes; those that it does not take are 0.
-#[derive(Clone, Copy, Debug)]
+#[derive(Clone, Copy)]
 pub(crate) struct Operands {
     pub(crate) a: i64,
     pub(crate) b: i64,

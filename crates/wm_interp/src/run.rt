@@ -27,7 +27,7 @@ use wm_program::{
 };
 
 /// A loop, as it is turned.
-#[derive(Clone, Copy, Debug)]
+#[derive(Clone, Copy)]
 pub(crate) enum Loop<'a> {
     /// A for or a while, whose test may be counted or absent.
     Tested {

@@ -5,7 +5,7 @@ use wm_weights::Weights;
 
 /// The program, its weights, an instance, what the view parameters of the instance look into, and how many calls may
 /// still be open at once.
-#[derive(Clone, Copy, Debug)]
+#[derive(Clone, Copy)]
 pub(crate) struct Scene<'a> {
     pub(crate) program: &'a Program,
     pub(crate) weights: &'a Weights,

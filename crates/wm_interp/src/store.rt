@@ -9,7 +9,7 @@ use std::alloc::Global;
 use std::marker::Model;
 
 /// Variables, each with its cells, of which each may be unset. Contracts see it as the list of their cells.
-#[derive(Debug, Drop)]
+#[derive(Drop)]
 pub(crate) struct Store {
     rows: Vec<Vec<Option<i64>>>,
 }

@@ -4,7 +4,7 @@ use crate::place::Position;
 use sqlite_items::{Boxed, Items};
 
 /// A name where it stands in the source.
-#[derive(Debug, Drop)]
+#[derive(Drop)]
 pub struct Identifier {
     pub name: Name,
     pub at: Position,
@@ -65,7 +65,7 @@ pub enum MemberMark {
 }
 
 /// An operator of a chain and the operand behind it.
-#[derive(Debug, Drop)]
+#[derive(Drop)]
 pub struct Part<M, E> {
     pub mark: M,
     /// Where the operator stands.
@@ -74,7 +74,7 @@ pub struct Part<M, E> {
 }
 
 /// Operators of one level with their operands, as `a - b + c`. There is at least one operator.
-#[derive(Debug, Drop)]
+#[derive(Drop)]
 pub struct Chain<M, E> {
     /// The first token of the first operand.
     pub at: Position,
@@ -83,7 +83,7 @@ pub struct Chain<M, E> {
 }
 
 /// What an assignment may write and an expression may read.
-#[derive(Debug, Drop)]
+#[derive(Drop)]
 pub struct Spot<E> {
     /// The first token.
     pub at: Position,
@@ -91,7 +91,7 @@ pub struct Spot<E> {
 }
 
 /// The forms of a spot.
-#[derive(Debug, Drop)]
+#[derive(Drop)]
 pub enum SpotKind<E> {
     /// `v`
     Scalar {
@@ -127,14 +127,14 @@ pub enum SpotKind<E> {
 }
 
 /// A call of an operator, a counting call or a function.
-#[derive(Debug, Drop)]
+#[derive(Drop)]
 pub struct Call<E> {
     pub name: Identifier,
     pub arguments: Items<E>,
 }
 
 /// An expression.
-#[derive(Debug, Drop)]
+#[derive(Drop)]
 pub enum Expr {
     Or(Chain<(), Expr>),
     And(Chain<(), Expr>),

@@ -6,7 +6,7 @@ use std::marker::Model;
 use wm_ops::NoMemory;
 
 /// The bytes of a name, which contracts see as a list.
-#[derive(Debug, Drop)]
+#[derive(Drop)]
 pub struct Name {
     bytes: Vec<u8>,
 }

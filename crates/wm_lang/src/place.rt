@@ -1,7 +1,7 @@
 // Where something stands: in the text of a file, and in the list of tokens.
 
 /// A place in the text of the source files, as a message names it.
-#[derive(Clone, Copy, Debug, PartialEq, Eq, PartialOrd, Ord, Hash)]
+#[derive(Clone, Copy, Debug, PartialEq, Eq)]
 pub struct Place {
     /// The file's number in the order of the sources, from 0.
     pub file: u32,
@@ -12,7 +12,7 @@ pub struct Place {
 }
 
 /// A token as a node of a tree remembers it: its number in the list of tokens, from 0, and its place.
-#[derive(Clone, Copy, Debug, PartialEq, Eq, PartialOrd, Ord, Hash)]
+#[derive(Clone, Copy, Debug, PartialEq, Eq)]
 pub struct Position {
     pub token: usize,
     pub place: Place,

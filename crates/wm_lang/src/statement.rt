@@ -12,7 +12,7 @@ pub struct Words {
 }
 
 /// What a declared scalar begins with.
-#[derive(Debug, Drop)]
+#[derive(Drop)]
 pub struct Initializer {
     /// Where the `=` stands.
     pub at: Position,
@@ -20,7 +20,7 @@ pub struct Initializer {
 }
 
 /// What a declared array begins with: at least one value.
-#[derive(Debug, Drop)]
+#[derive(Drop)]
 pub struct InitializerList {
     /// Where the `=` stands.
     pub at: Position,
@@ -28,7 +28,7 @@ pub struct InitializerList {
 }
 
 /// One name of a declaration.
-#[derive(Debug, Drop)]
+#[derive(Drop)]
 pub enum Declarator {
     /// `v` or `v = e`
     Scalar {
@@ -45,7 +45,7 @@ pub enum Declarator {
 }
 
 /// A declaration of at least one object, in a block or outside of functions. In a block no `extern` stands.
-#[derive(Debug, Drop)]
+#[derive(Drop)]
 pub struct Declaration {
     /// The first token.
     pub at: Position,
@@ -75,7 +75,7 @@ pub enum StepMark {
 }
 
 /// A statement without words of its own: an assignment, a step or a call.
-#[derive(Debug, Drop)]
+#[derive(Drop)]
 pub enum Simple {
     /// `spot = value` and its kin
     Assign {
@@ -108,7 +108,7 @@ pub struct Word {
 }
 
 /// A block, with both its braces.
-#[derive(Debug, Drop)]
+#[derive(Drop)]
 pub struct Block<S> {
     /// The `{`.
     pub first: Position,
@@ -118,21 +118,21 @@ pub struct Block<S> {
 }
 
 /// What stands in a block.
-#[derive(Debug, Drop)]
+#[derive(Drop)]
 pub enum BlockItem<S> {
     Declaration(Declaration),
     Statement(S),
 }
 
 /// The part of an `if` behind its statement.
-#[derive(Debug, Drop)]
+#[derive(Drop)]
 pub struct Otherwise<S> {
     pub word: Word,
     pub body: S,
 }
 
 /// A statement.
-#[derive(Debug, Drop)]
+#[derive(Drop)]
 pub enum Statement {
     Block(Block<Statement>),
     /// `;`

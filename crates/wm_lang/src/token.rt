@@ -5,7 +5,7 @@ use crate::place::Place;
 /// A keyword of C99 or of the basic operators' type names, or a control word in capitals.
 ///
 /// The keywords from `Auto` on are keys that no production of the grammar uses.
-#[derive(Clone, Copy, Debug, PartialEq, Eq, Hash)]
+#[derive(Clone, Copy, Debug, PartialEq, Eq)]
 pub enum Key {
     Word16,
     Word32,
@@ -61,7 +61,7 @@ pub enum Key {
 }
 
 /// A mark, named as C99 6.4.6 and its readers name it.
-#[derive(Clone, Copy, Debug, PartialEq, Eq, Hash)]
+#[derive(Clone, Copy, Debug, PartialEq, Eq)]
 pub enum Punct {
     /// `(`
     LeftParenthesis,
@@ -126,7 +126,7 @@ pub enum Punct {
 }
 
 /// What a token is.
-#[derive(Debug, Drop)]
+#[derive(Drop)]
 pub enum TokenKind {
     Name(Name),
     /// The value of a number, from -2,147,483,648 to 2,147,483,647.
@@ -136,7 +136,7 @@ pub enum TokenKind {
 }
 
 /// A token and where its text stands. A token that a macro made has the place of the macro's name.
-#[derive(Debug, Drop)]
+#[derive(Drop)]
 pub struct Token {
     pub kind: TokenKind,
     pub place: Place,

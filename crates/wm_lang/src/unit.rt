@@ -6,7 +6,7 @@ use sqlite_items::Items;
 use wm_ops::List;
 
 /// What a parameter takes.
-#[derive(Debug, Drop)]
+#[derive(Drop)]
 pub enum ParameterKind {
     /// `type v`
     Scalar(BaseType),
@@ -23,7 +23,7 @@ pub enum ParameterKind {
 }
 
 /// A parameter. Only in a function item without a block its name may be absent.
-#[derive(Debug, Drop)]
+#[derive(Drop)]
 pub struct Parameter {
     /// The first token.
     pub at: Position,
@@ -33,7 +33,7 @@ pub struct Parameter {
 }
 
 /// A function with its block, or a prototype without one, which declares nothing.
-#[derive(Debug, Drop)]
+#[derive(Drop)]
 pub struct Function {
     /// The first token.
     pub at: Position,
@@ -47,7 +47,7 @@ pub struct Function {
 }
 
 /// One name of a member line.
-#[derive(Debug, Drop)]
+#[derive(Drop)]
 pub enum MemberDeclarator {
     /// `m`
     Scalar(Identifier),
@@ -60,7 +60,7 @@ pub enum MemberDeclarator {
 }
 
 /// Members of one type, at least one.
-#[derive(Debug, Drop)]
+#[derive(Drop)]
 pub struct Members {
     /// The first token.
     pub at: Position,
@@ -69,7 +69,7 @@ pub struct Members {
 }
 
 /// `struct S { .. };` with at least one line of members
-#[derive(Debug, Drop)]
+#[derive(Drop)]
 pub struct Struct {
     /// The first token.
     pub at: Position,
@@ -78,7 +78,7 @@ pub struct Struct {
 }
 
 /// `struct S v, w;` with at least one object
-#[derive(Debug, Drop)]
+#[derive(Drop)]
 pub struct StructObjects {
     /// The first token.
     pub at: Position,
@@ -88,7 +88,7 @@ pub struct StructObjects {
 }
 
 /// An item of a unit.
-#[derive(Debug, Drop)]
+#[derive(Drop)]
 pub enum Item {
     Objects(Declaration),
     Function(Function),
@@ -97,7 +97,7 @@ pub enum Item {
 }
 
 /// The tree of all tokens.
-#[derive(Debug, Drop)]
+#[derive(Drop)]
 pub struct Unit {
     pub items: List<Item>,
 }

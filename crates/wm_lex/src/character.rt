@@ -6,7 +6,7 @@ use std::alloc::{AllocError, Global};
 use wm_lang::Place;
 
 /// A byte of a text, with the line and the column, both from 1, where it stands in the file as it is written.
-#[derive(Clone, Copy, Debug)]
+#[derive(Clone, Copy)]
 pub struct Character {
     pub byte: u8,
     pub line: u32,

@@ -6,7 +6,7 @@ use crate::character::{Character, push_kept};
 use std::alloc::{AllocError, Global};
 
 /// What a character stands in.
-#[derive(Clone, Copy, Debug)]
+#[derive(Clone, Copy)]
 pub enum Region {
     Code,
     /// A comment that goes to the end of the line.

@@ -10,7 +10,7 @@ use wm_lang::Name;
 use wm_ops::NoMemory;
 
 /// The lexemes that replace a macro, which contracts see as a list.
-#[derive(Debug, Drop)]
+#[derive(Drop)]
 pub struct Replacement {
     items: Vec<Lexeme>,
 }
@@ -39,7 +39,7 @@ impl Replacement {
 }
 
 /// A name that was ever defined.
-#[derive(Debug, Drop)]
+#[derive(Drop)]
 pub struct Macro {
     pub name: Name,
     /// What replaces it; None where it is no more in force.

@@ -9,7 +9,7 @@ use wm_lang::{Name, Place, Punct, Token, TokenKind};
 use wm_ops::NoMemory;
 
 /// A token of a text or of a macro's list. A word may be a key, a name or a macro.
-#[derive(Debug, Drop)]
+#[derive(Drop)]
 pub enum Lexeme {
     Word(Name),
     Number(i64),

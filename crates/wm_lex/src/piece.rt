@@ -16,7 +16,7 @@ use wm_lang::{Name, Place, Punct};
 use wm_ops::NoMemory;
 
 /// What stands at one place of a line.
-#[derive(Debug, Drop)]
+#[derive(Drop)]
 pub enum PieceKind {
     Whole(Lexeme),
     Hash,
@@ -25,7 +25,7 @@ pub enum PieceKind {
 }
 
 /// A piece of a line, its place, and whether white space or the start of the line stands directly before it.
-#[derive(Debug, Drop)]
+#[derive(Drop)]
 pub struct Piece {
     pub kind: PieceKind,
     pub place: Place,
@@ -33,7 +33,7 @@ pub struct Piece {
 }
 
 /// The piece at the front of some characters, and how many characters it has behind its first.
-#[derive(Debug, Drop)]
+#[derive(Drop)]
 pub struct Front {
     pub kind: PieceKind,
     pub more: usize,

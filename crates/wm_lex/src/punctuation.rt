@@ -5,7 +5,7 @@ ghost use Rattle.wm_lex.specs.Punctuation.{pair_in, single_in, pair_mark, single
 use wm_lang::Punct;
 
 /// A mark of two bytes.
-#[derive(Clone, Copy, Debug)]
+#[derive(Clone, Copy)]
 pub struct Pair {
     pub first: u8,
     pub second: u8,
@@ -13,7 +13,7 @@ pub struct Pair {
 }
 
 /// A mark of one byte.
-#[derive(Clone, Copy, Debug)]
+#[derive(Clone, Copy)]
 pub struct Single {
     pub byte: u8,
     pub mark: Punct,

@@ -6,7 +6,7 @@ use crate::character::{Character, push_kept};
 use std::alloc::{AllocError, Global};
 
 /// Where the next byte of a text stands, and how many bytes from it on belong to a splice.
-#[derive(Clone, Copy, Debug)]
+#[derive(Clone, Copy)]
 pub struct Cursor {
     pub line: u64,
     pub column: u64,

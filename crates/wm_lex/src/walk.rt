@@ -42,7 +42,7 @@ fn place_of(definitions: &Definitions, lexeme: &Lexeme) -> Option<usize>
 }
 
 /// How far a walk has come with a macro.
-#[derive(Clone, Copy, Debug)]
+#[derive(Clone, Copy)]
 pub enum Stage {
     /// It has not come to it.
     Fresh,

@@ -3,6 +3,8 @@
 
 mod marks;
 mod numbers;
+mod taken;
 
 pub use marks::Marks;
-pub use numbers::{is_one_of, number_of};
+pub use numbers::number_of;
+pub use taken::Taken;

@@ -2,7 +2,8 @@
 ghost use Rattle.std.specs.Prelude.{◌≡◌, length, List, [], Option, Some, None};
 ghost use Rattle.wm_marks.specs.Marking as marking;
 
-use crate::numbers::{is_one_of, number_of};
+use crate::numbers::number_of;
+use crate::taken::Taken;
 use std::alloc::Global;
 use std::mem;
 use wm_lang::Position;
@@ -11,7 +12,7 @@ use wm_program::{LoopInfo, SiteInfo, SiteKind};
 use wm_scope::{CallPlace, Found, TokenFault};
 
 /// What was collected so far.
-#[derive(Debug, Drop)]
+#[derive(Drop)]
 pub struct Marks {
     /// The sites of the unit.
     pub sites: List<SiteInfo>,
@@ -22,9 +23,9 @@ pub struct Marks {
     /// The loops of the unit.
     pub loops: List<LoopInfo>,
     /// The numbers of the objects whose address is taken.
-    pub objects: List<u32>,
+    pub objects: Taken,
     /// The numbers of the locals of the function at work whose address is taken.
-    pub locals: List<u32>,
+    pub locals: Taken,
     /// The least fault so far.
     pub least: Option<Found>,
 }
@@ -39,8 +40,8 @@ impl Marks {
             waiting: None,
             calls: List::new(alloc),
             loops: List::new(alloc),
-            objects: List::new(alloc),
-            locals: List::new(alloc),
+            objects: Taken::new(alloc),
+            locals: Taken::new(alloc),
             least: None,
         }
     }
@@ -121,20 +122,14 @@ impl Marks {
     pub fn take_object(&mut self, object: u32) -> Result<(), NoMemory>
         ensures taken { marking.Gives (marking.took_object object self.old) result self.new }
     {
-        if is_one_of(object, self.objects.items()) {
-            return Ok(());
-        }
-        self.objects.push(object)
+        self.objects.add(object)
     }
 
     /// The address of a local is taken.
     pub fn take_local(&mut self, local: u32) -> Result<(), NoMemory>
         ensures taken { marking.Gives (marking.took_local local self.old) result self.new }
     {
-        if is_one_of(local, self.locals.items()) {
-            return Ok(());
-        }
-        self.locals.push(local)
+        self.locals.add(local)
     }
 
     /// Begins a function: nothing is collected of it.
@@ -142,7 +137,7 @@ impl Marks {
         ensures begun { self.new ≡ marking.begun self.old }
     {
         self.calls = List::new(alloc);
-        self.locals = List::new(alloc);
+        self.locals = Taken::new(alloc);
     }
 
     /// Gives the calls of the function at work away.

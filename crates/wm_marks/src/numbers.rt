@@ -1,6 +1,5 @@
 // Numbers of things, which have 32 bits.
 ghost use Rattle.std.specs.Prelude.{◌≡◌, IfOk};
-ghost use Rattle.wm_marks.specs.Marking.{has};
 
 use wm_ops::NoMemory;
 
@@ -12,16 +11,4 @@ pub fn number_of(count: usize) -> Result<u32, NoMemory>
         return Ok(count as u32);
     }
     Err(NoMemory)
-}
-
-/// Whether a number is one of these.
-pub fn is_one_of(number: u32, numbers: &[u32]) -> bool
-    ensures among { result ≡ has number numbers.now }
-{
-    for other in numbers {
-        if *other == number {
-            return true;
-        }
-    }
-    false
 }

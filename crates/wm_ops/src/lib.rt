@@ -20,8 +20,6 @@ mod search;
 mod shifts;
 mod sums;
 mod tables;
-#[cfg(test)]
-mod tests;
 mod words;
 
 pub use laws::operator_laws;

@@ -11,13 +11,13 @@ use Rattle.wm_lang.specs.declared.unit.ParameterKind.{ParameterKind}
 use Rattle.wm_lang.specs.declared.unit.ParameterKind.TheVariants as kinds
 use Rattle.wm_parse.specs.declared.function.Heading.{Heading}
 use Rattle.wm_parse.specs.declared.function.Opening.{Opening}
-use Rattle.wm_parse.specs.declared.word.Head.{Head}
-use Rattle.wm_parse.specs.declared.word.Head.TheVariants as head
-use Rattle.wm_parse.specs.Inputs.{Reader, ◌>>=◌, ◌>>◌, ◌<$>◌, pure, refuse, here, take, eat, seeing, enter, expect, identifier, peek, after}
-use Rattle.wm_parse.specs.Expressions.{separated}
-use Rattle.wm_parse.specs.Declarations.{length}
-use Rattle.wm_parse.specs.Statements.{block_at}
-use Rattle.wm_parse.specs.Words.{head_of, is_const, is_name}
+use Rattle.wm_cursor.specs.declared.word.Head.{Head}
+use Rattle.wm_cursor.specs.declared.word.Head.TheVariants as head
+use Rattle.wm_cursor.specs.Inputs.{Reader, ◌>>=◌, ◌>>◌, ◌<$>◌, pure, refuse, here, take, eat, seeing, enter, expect, identifier, peek, after}
+use Rattle.wm_expressions.specs.Expressions.{separated}
+use Rattle.wm_declarations.specs.Declarations.{length}
+use Rattle.wm_blocks.specs.Statements.{block_at}
+use Rattle.wm_cursor.specs.Words.{head_of, is_const, is_name}
 
 -- ---- parameters
 

@@ -1,14 +1,2 @@
-pub mod Inputs
-pub mod Operators
-pub mod Chains
-pub mod Expressions
-pub mod Nests
-pub mod Words
-pub mod Simples
-pub mod Declarations
-pub mod Controls
-pub mod Statements
-pub mod Holds
 pub mod Functions
-pub mod Structures
 pub mod Units

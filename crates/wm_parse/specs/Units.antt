@@ -7,16 +7,16 @@ use Rattle.wm_lang.specs.declared.token.Token.{Token}
 use Rattle.wm_lang.specs.declared.unit.Item.{Item}
 use Rattle.wm_lang.specs.declared.unit.Item.TheVariants as forms
 use Rattle.wm_lang.specs.declared.unit.Unit as whole
-use Rattle.wm_parse.specs.declared.declaration.Front.{Front}
-use Rattle.wm_parse.specs.declared.fault.ParseFault.{ParseFault}
-use Rattle.wm_parse.specs.declared.fault.ParseFault.TheVariants.{Syntax, NoMemory}
-use Rattle.wm_parse.specs.declared.word.Head.{Head}
-use Rattle.wm_parse.specs.declared.word.Head.TheVariants as head
-use Rattle.wm_parse.specs.Inputs.{Input, Reader, ◌>>=◌, ◌>>◌, ◌<$>◌, pure, refuse, here, take, seeing, identifier, begin, peek, count, number}
-use Rattle.wm_parse.specs.Declarations.{declared, words}
+use Rattle.wm_declarations.specs.declared.declarations.Front.{Front}
+use Rattle.wm_cursor.specs.declared.fault.ParseFault.{ParseFault}
+use Rattle.wm_cursor.specs.declared.fault.ParseFault.TheVariants.{Syntax, NoMemory}
+use Rattle.wm_cursor.specs.declared.word.Head.{Head}
+use Rattle.wm_cursor.specs.declared.word.Head.TheVariants as head
+use Rattle.wm_cursor.specs.Inputs.{Input, Reader, ◌>>=◌, ◌>>◌, ◌<$>◌, pure, refuse, here, take, seeing, identifier, begin, peek, count, number}
+use Rattle.wm_declarations.specs.Declarations.{declared, words}
 use Rattle.wm_parse.specs.Functions.{function}
-use Rattle.wm_parse.specs.Structures.{objects, structure}
-use Rattle.wm_parse.specs.Words.{head_of}
+use Rattle.wm_declarations.specs.Structures.{objects, structure}
+use Rattle.wm_cursor.specs.Words.{head_of}
 
 -- how many levels of syntax may be open at a token
 abbrev pub levels : ℕ

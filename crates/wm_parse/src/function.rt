@@ -1,15 +1,13 @@
 // Functions, with their parameters.
 ghost use Rattle.std.specs.Prelude.{◌≡◌, ◌-◌, Ok};
-ghost use Rattle.wm_parse.specs.Inputs.{Reads, input_of};
+ghost use Rattle.wm_cursor.specs.Inputs.{Reads, input_of};
 ghost use Rattle.wm_parse.specs.Functions as spec;
 
-use crate::declaration::length;
-use crate::fault::ParseFault;
-use crate::nesting::block_at;
-use crate::token::Tokens;
-use crate::word::{Head, head_of, is_const, is_name};
 use sqlite_items::Items;
 use std::alloc::Global;
+use wm_blocks::block_at;
+use wm_cursor::{Head, ParseFault, Tokens, head_of, is_const, is_name};
+use wm_declarations::length;
 use wm_lang::{
     BaseType, Block, Function, Identifier, Parameter, ParameterKind, Position, Punct, Statement,
     Words,
@@ -27,7 +25,7 @@ fn optional_name(alloc: Global, tokens: &mut Tokens<'_>) -> Result<Option<Identi
 }
 
 /// What stands before the name of a parameter.
-#[derive(Clone, Copy, Debug)]
+#[derive(Clone, Copy)]
 pub struct Opening {
     /// The first token.
     pub at: Position,
@@ -256,7 +254,7 @@ fn body(
 }
 
 /// What stands before the parameters of a function.
-#[derive(Debug, Drop)]
+#[derive(Drop)]
 pub struct Heading {
     /// The first token.
     pub at: Position,

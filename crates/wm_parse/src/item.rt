@@ -1,15 +1,12 @@
 // The items of a unit.
 ghost use Rattle.std.specs.Prelude.{◌≡◌};
-ghost use Rattle.wm_parse.specs.Inputs.{Reads, input_of};
+ghost use Rattle.wm_cursor.specs.Inputs.{Reads, input_of};
 ghost use Rattle.wm_parse.specs.Units as spec;
 
-use crate::declaration::{Front, declared, words};
-use crate::fault::ParseFault;
 use crate::function::{Heading, function};
-use crate::structure::{objects, structure};
-use crate::token::Tokens;
-use crate::word::{Head, head_of};
 use std::alloc::Global;
+use wm_cursor::{Head, ParseFault, Tokens, head_of};
+use wm_declarations::{Front, declared, objects, structure, words};
 use wm_lang::{Item, Position, Punct, Words};
 
 /// How many levels of syntax may be open at a token.

@@ -1,12 +1,11 @@
 // All tokens of a list.
 ghost use Rattle.std.specs.Prelude.{◌≡◌};
-ghost use Rattle.wm_parse.specs.Inputs.{Reads, input_of};
+ghost use Rattle.wm_cursor.specs.Inputs.{Reads, input_of};
 ghost use Rattle.wm_parse.specs.Units as spec;
 
-use crate::fault::ParseFault;
 use crate::item::item;
-use crate::token::Tokens;
 use std::alloc::Global;
+use wm_cursor::{ParseFault, Tokens};
 use wm_lang::{Item, Token, Unit};
 use wm_ops::List;
 

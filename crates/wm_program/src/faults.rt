@@ -29,7 +29,7 @@ pub enum What {
 
 /// The first fault of a unit and its specification. Those with a token come first, the least token before the others, at one token
 /// in the order in which they stand here; the others follow in their order. A token is a number of the unit's tokens, from 0.
-#[derive(Debug, Drop)]
+#[derive(Drop)]
 pub enum LinkFault {
     /// A name that is used and not declared, or a name of a block in its own initialiser.
     UnknownName { token: usize },

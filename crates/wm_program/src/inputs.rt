@@ -2,7 +2,7 @@
 use wm_ops::List;
 
 /// One number for each input cell, the inputs in their order and the cells of each from 0.
-#[derive(Debug, Drop)]
+#[derive(Drop)]
 pub struct Inputs {
     pub values: List<i64>,
 }

@@ -5,7 +5,7 @@ use wm_lang::{Name, Place};
 use wm_ops::{List, Op, Width};
 
 /// A linked program. What is numbered is numbered from 0.
-#[derive(Debug, Drop)]
+#[derive(Drop)]
 pub struct Program {
     /// The functions that have a block, in the order of the source.
     pub functions: List<FunctionInfo>,
@@ -29,7 +29,7 @@ pub struct Program {
 }
 
 /// A function.
-#[derive(Debug, Drop)]
+#[derive(Drop)]
 pub struct FunctionInfo {
     pub name: Name,
     /// None for `void`.
@@ -44,7 +44,7 @@ pub struct FunctionInfo {
 }
 
 /// A parameter or an automatic variable.
-#[derive(Debug, Drop)]
+#[derive(Drop)]
 pub struct LocalInfo {
     pub name: Name,
     pub width: Width,
@@ -57,7 +57,7 @@ pub struct LocalInfo {
 }
 
 /// An object of static storage.
-#[derive(Debug, Drop)]
+#[derive(Drop)]
 pub struct ObjectInfo {
     pub name: Name,
     pub width: Width,
@@ -84,7 +84,7 @@ pub enum SiteKind {
 }
 
 /// A site.
-#[derive(Clone, Copy, Debug)]
+#[derive(Clone, Copy)]
 pub struct SiteInfo {
     pub kind: SiteKind,
     /// The number of its token.
@@ -93,7 +93,7 @@ pub struct SiteInfo {
 }
 
 /// A loop.
-#[derive(Clone, Copy, Debug)]
+#[derive(Clone, Copy)]
 pub struct LoopInfo {
     /// The function in which it stands.
     pub function: u32,
@@ -107,7 +107,7 @@ pub struct LoopInfo {
 }
 
 /// An instance of a function: one for each chain of call places that leads to it.
-#[derive(Debug, Drop)]
+#[derive(Drop)]
 pub struct InstanceInfo {
     pub function: u32,
     /// The instance that calls it; none for init and the frame function.
@@ -128,7 +128,7 @@ pub enum Root {
 }
 
 /// An input: an object, by its number, and the numbers that its cells may have.
-#[derive(Clone, Copy, Debug)]
+#[derive(Clone, Copy)]
 pub struct InputInfo {
     pub object: u32,
     pub range: Interval,

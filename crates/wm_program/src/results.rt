@@ -35,7 +35,7 @@ pub struct Event {
 }
 
 /// What a frame is seen to do.
-#[derive(Debug, Drop)]
+#[derive(Drop)]
 pub struct FrameResult {
     /// The weights of the counted words, added up.
     pub count: u128,

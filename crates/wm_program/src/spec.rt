@@ -4,7 +4,7 @@ use wm_lang::Name;
 use wm_ops::List;
 
 /// A specification that was read.
-#[derive(Debug, Drop)]
+#[derive(Drop)]
 pub struct Spec {
     /// The names of the source files, 1 to 64, in their order.
     pub sources: List<Name>,
@@ -27,7 +27,7 @@ pub struct Spec {
 }
 
 /// The range of an input.
-#[derive(Debug, Drop)]
+#[derive(Drop)]
 pub struct RangeOf {
     pub name: Name,
     pub range: Interval,

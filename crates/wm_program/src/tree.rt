@@ -48,14 +48,14 @@ pub enum Comparison {
 
 /// A value and its conversion: where one of 32 bits goes to 16 bits and is no fitting constant, the conversion is a
 /// site, by its number.
-#[derive(Debug, Drop)]
+#[derive(Drop)]
 pub struct Converted<E> {
     pub value: E,
     pub narrowing: Option<u32>,
 }
 
 /// An operator of a chain, its site, and the operand behind it.
-#[derive(Debug, Drop)]
+#[derive(Drop)]
 pub struct Link<E> {
     pub mark: PlainMark,
     pub site: u32,
@@ -63,7 +63,7 @@ pub struct Link<E> {
 }
 
 /// The part of an array that a call hands over.
-#[derive(Debug, Drop)]
+#[derive(Drop)]
 pub enum View<E> {
     /// `a`, and `&v` for a scalar.
     Whole(Array),
@@ -72,14 +72,14 @@ pub enum View<E> {
 }
 
 /// An argument of a function.
-#[derive(Debug, Drop)]
+#[derive(Drop)]
 pub enum Passed<E> {
     Value(Converted<E>),
     View(View<E>),
 }
 
 /// A call of a function.
-#[derive(Debug, Drop)]
+#[derive(Drop)]
 pub struct Call<E> {
     /// The function's number.
     pub function: u32,
@@ -89,7 +89,7 @@ pub struct Call<E> {
 }
 
 /// An expression that gives a number.
-#[derive(Debug, Drop)]
+#[derive(Drop)]
 pub enum Expr {
     Constant(i64),
     Scalar(Scalar),
@@ -125,7 +125,7 @@ pub enum Expr {
 }
 
 /// A condition.
-#[derive(Debug, Drop)]
+#[derive(Drop)]
 pub enum Condition {
     /// `||`, evaluated up to the first that holds.
     Or {
@@ -148,7 +148,7 @@ pub enum Condition {
 }
 
 /// What an assignment writes.
-#[derive(Debug, Drop)]
+#[derive(Drop)]
 pub enum Spot {
     Scalar(Scalar),
     /// `a[e]`, and `*p` and a scalar member `p->m` with the index 0.
@@ -160,7 +160,7 @@ pub enum Spot {
 }
 
 /// A statement without words of its own.
-#[derive(Debug, Drop)]
+#[derive(Drop)]
 pub enum Simple {
     /// `spot = value`
     Assign {
@@ -182,7 +182,7 @@ pub enum Simple {
 }
 
 /// A name that a declaration makes, by its number among the locals.
-#[derive(Debug, Drop)]
+#[derive(Drop)]
 pub enum Declared {
     /// A scalar. Without a value it takes the next number of the fill list, clamped to the width.
     Scalar {
@@ -199,14 +199,14 @@ pub enum Declared {
 }
 
 /// The part of an `if` behind its statement.
-#[derive(Debug, Drop)]
+#[derive(Drop)]
 pub struct Otherwise<S> {
     pub is_counted: bool,
     pub body: S,
 }
 
 /// A statement.
-#[derive(Debug, Drop)]
+#[derive(Drop)]
 pub enum Statement {
     Block(Items<Statement>),
     /// `;`
@@ -253,7 +253,7 @@ pub enum Statement {
 }
 
 /// The block of a function.
-#[derive(Debug, Drop)]
+#[derive(Drop)]
 pub struct Body {
     pub statements: Items<Statement>,
 }

@@ -6,7 +6,7 @@ use Rattle.std.proofs.lemmas.Bool.{cases_lt, le-ltb, lt-ltb}
 use Rattle.wm_files.specs.Outside.{Held, Rose}
 use Rattle.wm_report.specs.declared.fault.RunFault.{RunFault}
 use Rattle.wm_report.specs.declared.fault.RunFault.TheVariants.{Memory}
-use Rattle.wm_read.specs.Asking.{Read, Bytes, TooLong, Failed, Asking, Done, Ask, ◌>>=◌, ReadGives, Leads, told_read, read_in, told, Finds, Reads}
+use Rattle.wm_read.specs.Asking.{Read, Bytes, TooLong, Failed, Asking, Done, Ask, ◌>>=◌, ReadGives, Leads, told_read, read_in, told, Finds, IsFault, Reads}
 
 -- ---- what is said of the count of faults over a part of a call holds over the whole call
 
@@ -78,6 +78,12 @@ unfolding Leads
 reads_done view held a b x (Ok y) found = sym found
 reads_done view held a b x (Err fault) (inl memory) = inl memory
 reads_done view held a b x (Err fault) (inr found) = inr (sym found)
+
+-- a refusal that takes no reading
+pub refuses : {X A : Type 0} (held : Option Held) (a b : ℕ) (view : X → A) (fault found : RunFault) → IsFault found fault → Reads view held a b (Done (Err fault)) (Err found)
+unfolding Leads
+refuses held a b view fault found (inl memory) = inl memory
+refuses held a b view fault found (inr is) = inr (ap Err is)
 
 -- ---- files that tell what they hold, and do not fail, leave one result
 

@@ -2,9 +2,11 @@
 ghost use Rattle.std.specs.Prelude.{◌≡◌, ◌≤◌, IfOk, All};
 ghost use Rattle.wm_program.specs.Settings.{settings_of};
 ghost use Rattle.wm_read.specs.Asking.{Reads};
+ghost use Rattle.wm_read.specs.Certificate.{check_texts_asked};
 ghost use Rattle.wm_read.specs.Files.{texts_asked, texts_with, texts_behind};
 ghost use Rattle.wm_read.specs.Given.{given_of, IsText};
 
+use crate::certificate::read_certified;
 use crate::sources::read_sources;
 use crate::specification::read_specification;
 use crate::weights::read_weights_file;
@@ -69,6 +71,25 @@ pub fn read_texts<F: Files>(alloc: Global, name: &[u8], files: &mut F) -> Result
     ensures count { F.faults files.old ≤ F.faults files.new }
 {
     match read_specification(alloc, name, files) {
+        Ok(spec) => with_spec(alloc, spec, files),
+        Err(fault) => Err(fault),
+    }
+}
+
+/// As `read_texts`, of a specification that must name a certificate, as a check wants it.
+///
+/// `MissingKey` of the key `certificate` stands behind all other refusals of the specification, and before all that follows.
+pub fn read_check_texts<F: Files>(
+    alloc: Global,
+    name: &[u8],
+    files: &mut F,
+) -> Result<Texts, RunFault>
+    ensures given { Reads given_of (F.held files.old) (F.faults files.old) (F.faults files.new) (check_texts_asked name.now) result }
+    ensures short { IfOk result (λ texts. All IsText texts.sources.items) }
+    ensures held { F.held files.new ≡ F.held files.old }
+    ensures count { F.faults files.old ≤ F.faults files.new }
+{
+    match read_certified(alloc, name, files) {
         Ok(spec) => with_spec(alloc, spec, files),
         Err(fault) => Err(fault),
     }

@@ -4,15 +4,15 @@ ghost use Rattle.wm_reading.specs.Finishing as spec;
 
 use std::alloc::Global;
 use wm_lang::Name;
-use wm_marks::{is_one_of, number_of};
+use wm_marks::{Taken, number_of};
 use wm_ops::{List, NoMemory};
 use wm_program::{LocalInfo, ObjectInfo};
 
-fn local(alloc: Global, info: &LocalInfo, number: u32, taken: &[u32]) -> Result<LocalInfo, NoMemory>
+fn local(alloc: Global, info: &LocalInfo, number: u32, taken: &Taken) -> Result<LocalInfo, NoMemory>
     ensures { IfOk result (λ local. local ≡ spec.local taken.now number info.now) }
 {
     let name = Name::new(alloc, info.name.bytes())?;
-    let addressed = is_one_of(number, taken);
+    let addressed = taken.has(number);
     Ok(LocalInfo {
         name,
         width: info.width,
@@ -26,7 +26,7 @@ fn local(alloc: Global, info: &LocalInfo, number: u32, taken: &[u32]) -> Result<
 pub fn locals(
     alloc: Global,
     infos: &[LocalInfo],
-    taken: &[u32],
+    taken: &Taken,
 ) -> Result<List<LocalInfo>, NoMemory>
     ensures locals { IfOk result (λ locals. locals ≡ spec.locals taken.now [] infos.now) }
 {
@@ -52,13 +52,13 @@ fn object(
     alloc: Global,
     info: &ObjectInfo,
     number: u32,
-    taken: &[u32],
+    taken: &Taken,
 ) -> Result<ObjectInfo, NoMemory>
     ensures { IfOk result (λ object. object ≡ spec.object taken.now number info.now) }
 {
     let name = Name::new(alloc, info.name.bytes())?;
     let initial = copied(alloc, info.initial.items())?;
-    let addressed = is_one_of(number, taken);
+    let addressed = taken.has(number);
     Ok(ObjectInfo {
         name,
         width: info.width,
@@ -75,7 +75,7 @@ fn object(
 pub fn objects(
     alloc: Global,
     infos: &[ObjectInfo],
-    taken: &[u32],
+    taken: &Taken,
 ) -> Result<List<ObjectInfo>, NoMemory>
     ensures objects { IfOk result (λ objects. objects ≡ spec.objects taken.now [] infos.now) }
 {

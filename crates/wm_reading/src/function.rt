@@ -192,7 +192,7 @@ fn finish(
 {
     let result = maybe_width(function.result);
     let name = Name::new(alloc, function.name.name.bytes())?;
-    let locals = locals(alloc, work.locals.items(), work.marks.locals.items())?;
+    let locals = locals(alloc, work.locals.items(), &work.marks.locals)?;
     let tokens = token_count(block.first, block.last)?;
     end_work(function, block, alloc, work);
     Ok(FunctionInfo {

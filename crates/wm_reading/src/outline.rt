@@ -14,11 +14,11 @@ use wm_lang::{
 use wm_marks::number_of;
 use wm_ops::{List, NoMemory, Width};
 use wm_program::What;
-use wm_scope::{Meaning, Named, Signature, Slot, TokenFault, is_among, outermost};
+use wm_scope::{Meaning, Named, Signature, Slot, TokenFault, outermost};
 use wm_source::width;
 
 /// What a unit declares so far, and how many objects.
-#[derive(Debug, Drop)]
+#[derive(Drop)]
 pub struct Outline {
     pub work: Work,
     pub objects: u32,
@@ -66,7 +66,7 @@ impl Outline {
         ensures { Gives (spec.declare name.now meaning self.old) result self.new }
     {
         self.check(name);
-        if is_among(name.name.bytes(), self.work.scope.file.items()) {
+        if self.work.scope.file.has(name.name.bytes()) {
             self.work.marks.note(TokenFault::Redefined, name.at);
             return Ok(());
         }

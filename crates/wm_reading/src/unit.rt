@@ -16,7 +16,7 @@ use wm_scope::{CallPlace, Names, Reading, Scope};
 use wm_source::width;
 
 /// What was read of a unit so far.
-#[derive(Debug, Drop)]
+#[derive(Drop)]
 pub struct Pass {
     pub work: Work,
     pub functions: List<FunctionInfo>,
@@ -144,7 +144,7 @@ fn finish(pass: Pass, alloc: Global) -> Result<Reading, NoMemory>
         functions,
         calls,
     } = pass;
-    let objects = objects(alloc, work.objects.items(), work.marks.objects.items())?;
+    let objects = objects(alloc, work.objects.items(), &work.marks.objects)?;
     let Work { marks, .. } = work;
     let Marks {
         sites,

@@ -5,7 +5,7 @@ use wm_ops::Counted;
 use wm_program::What;
 
 /// A place in a source file, which has a name here.
-#[derive(Debug, Drop)]
+#[derive(Drop)]
 pub struct At {
     pub file: Name,
     /// The line, from 1.
@@ -42,7 +42,7 @@ pub enum SourceName {
 }
 
 /// A refusal, with what its line tells.
-#[derive(Debug, Drop)]
+#[derive(Drop)]
 pub enum RunFault {
     /// The sources are together longer than their limit.
     SourcesTooLong,

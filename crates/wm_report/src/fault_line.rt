@@ -3,7 +3,6 @@ ghost use Rattle.std.specs.Prelude.{◌≡◌, ◌++◌, codes, OnOk, IfOk};
 ghost use Rattle.wm_report.specs.Fault.{named, place_or_end, place_behind, fault_words, status_of, fault_text};
 ghost use Rattle.wm_report.specs.Words.{source_word, what_word};
 
-use crate::digits::push_number;
 use crate::fault::{At, RunFault, SourceName};
 use crate::gap_words::push_gap;
 use crate::pieces::{
@@ -11,6 +10,7 @@ use crate::pieces::{
 };
 use crate::words::{source_word, what_word};
 use std::alloc::{AllocError, Global};
+use wm_digits::push_number;
 use wm_ops::{NoMemory, counted_name};
 use wm_program::What;
 

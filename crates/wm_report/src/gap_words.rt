@@ -2,10 +2,10 @@
 ghost use Rattle.std.specs.Prelude.{◌≡◌, ◌++◌, OnOk};
 ghost use Rattle.wm_report.specs.Gap.{numbered, numbered_pair, line_words, allowed_word, gap_edge, gap_line, gap_bounds, gap_words};
 
-use crate::digits::{push_number, push_signed};
 use crate::words::{edge_word, end_word};
 use std::alloc::AllocError;
 use wm_cert::{Gap, Line};
+use wm_digits::{push_number, push_signed};
 
 /// A word and a number, which counts from 1 in a text.
 #[tactic(auto, unfolding(crate::specs::Gap::numbered))]

@@ -1,7 +1,6 @@
 //! The texts that the program prints: letter by letter a function of what is told.
 #![tactic(auto)]
 
-mod digits;
 mod fault;
 mod fault_line;
 mod gap_words;

@@ -2,9 +2,9 @@
 ghost use Rattle.std.specs.Prelude.{◌≡◌, ◌++◌, decimal, OnOk};
 ghost use Rattle.wm_report.specs.Fault.{place_text, place_or_end, place_behind, shown_byte, shown_key, named, sample_of, number_of_cell};
 
-use crate::digits::{push_number, push_signed, push_wide};
 use crate::fault::At;
 use std::alloc::AllocError;
+use wm_digits::{push_number, push_signed, push_wide};
 use wm_lang::Name;
 
 /// FILE:LINE:COLUMN

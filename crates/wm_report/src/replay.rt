@@ -2,9 +2,9 @@
 ghost use Rattle.std.specs.Prelude.{◌≡◌, ◌++◌, OnOk, IfOk};
 ghost use Rattle.wm_report.specs.Replay.{part_words, site_words, event_line, event_lines, end_words, end_line, result_lines, frame_lines, init_lines, replay_text};
 
-use crate::digits::{push_number, push_signed, push_wide};
 use crate::words::cause_word;
 use std::alloc::{AllocError, Global};
+use wm_digits::{push_number, push_signed, push_wide};
 use wm_ops::NoMemory;
 use wm_program::{Cause, End, Event, FrameResult, Program};
 

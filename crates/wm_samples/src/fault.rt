@@ -2,7 +2,7 @@
 use wm_ops::NoMemory;
 
 /// Why a sample file gave no frames.
-#[derive(Debug, Drop)]
+#[derive(Drop)]
 pub enum SampleFault {
     /// This many bytes are left over behind the last whole frame; without inputs all bytes are.
     Rest {

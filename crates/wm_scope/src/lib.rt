@@ -3,10 +3,13 @@
 
 mod fault;
 mod meaning;
+mod names;
+mod places;
 mod reading;
 mod scope;
 
 pub use fault::{Found, TokenFault};
-pub use meaning::{Meaning, Named, Names, is_among, latest, outermost};
+pub use meaning::{Meaning, Named, outermost};
+pub use names::Names;
 pub use reading::{CallPlace, Reading};
 pub use scope::{Scope, Signature, Slot};

@@ -5,7 +5,7 @@ use wm_ops::List;
 use wm_program::{Array, FunctionInfo, LoopInfo, ObjectInfo, SiteInfo};
 
 /// A call of a function in the body of another.
-#[derive(Debug, Drop)]
+#[derive(Drop)]
 pub struct CallPlace {
     /// The number of the called function.
     pub function: u32,
@@ -16,7 +16,7 @@ pub struct CallPlace {
 }
 
 /// What one way through a unit gives. Where there is a fault the rest may be any stand-in but the calls.
-#[derive(Debug, Drop)]
+#[derive(Drop)]
 pub struct Reading {
     /// The functions that have a block, in the order of the source.
     pub functions: List<FunctionInfo>,

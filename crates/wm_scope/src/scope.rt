@@ -3,7 +3,8 @@ ghost use Rattle.std.specs.Prelude.{◌≡◌, [], ◌∷◌, ◌++◌, length, 
 ghost use Rattle.std.specs.Option.{option_copied};
 ghost use Rattle.wm_scope.specs.Scopes.{meaning_of, is_here, with_name, opened, closed, offset_of, slots_of, result_of};
 
-use crate::meaning::{Meaning, Named, Names, is_among, latest, outermost};
+use crate::meaning::{Meaning, Named, outermost};
+use crate::names::Names;
 use std::alloc::Global;
 use wm_lang::Name;
 use wm_ops::{List, NoMemory, Width};
@@ -19,7 +20,7 @@ pub struct Slot {
 }
 
 /// How a function is called.
-#[derive(Debug, Drop)]
+#[derive(Drop)]
 pub struct Signature {
     /// None for `void`.
     pub result: Option<Width>,
@@ -27,7 +28,7 @@ pub struct Signature {
 }
 
 /// The names in force.
-#[derive(Debug, Drop)]
+#[derive(Drop)]
 pub struct Scope {
     /// Those of file scope, from the whole unit.
     pub file: Names,
@@ -46,18 +47,15 @@ impl Scope {
     pub fn meaning(&self, word: &[u8]) -> Meaning
         ensures meaning { result ≡ meaning_of word.now self.now }
     {
-        let outside = latest(word, self.file.items(), outermost(word));
-        latest(word, self.locals.items(), outside)
+        let outside = self.file.latest(word, outermost(word));
+        self.locals.latest(word, outside)
     }
 
     /// Whether a name is declared in the innermost block.
     pub fn is_here(&self, word: &[u8]) -> bool
         ensures here { result ≡ is_here word.now self.now }
     {
-        match self.locals.items().get(self.outer..) {
-            None => false,
-            Some(names) => is_among(word, names),
-        }
+        self.locals.has_behind(self.outer, word)
     }
 
     /// What is added at this call of the function at work; 0 where nothing is said.
@@ -120,7 +118,8 @@ impl Scope {
 #[cfg(test)]
 mod tests {
     use super::{Scope, Signature, Slot};
-    use crate::meaning::{Meaning, Names};
+    use crate::meaning::Meaning;
+    use crate::names::Names;
     use std::process::Abort;
     use std::test::Fail;
     use wm_ops::{CountCall, List, Op, Width};

@@ -180,6 +180,9 @@ no_limit values h k y w = λ s. λ q. elim s [
 -- ---- tests
 
 module _ (s : Spanned) (f : Form) (r : Relation) (values : Interval) (hull : s.empty ≡ false → IsHullOf (IsFormValue (In s) f) values) where
+  pub made_all : ((y : ℤ) → Holds values y → MeetsIn values r y) → (p : Point) → In s p → Kept (In s) f r p
+  made_all each p i = record { point = i; meets = meets_of (In s) f values r (form_value p.values f) (hull i.some) (each _ (value_in (In s) f values (hull i.some) p i)) }
+
   pub kept_all : ((y : ℤ) → Holds values y → MeetsIn values r y) → Leaves s s (Kept (In s) f r)
   kept_all each = record {
     full = refl;
@@ -192,6 +195,12 @@ module _ (s : Spanned) (f : Form) (r : Relation) (values : Interval) (hull : s.e
   }
 
   module _ (t : Spanned) (l : Interval) (each : (z : ℤ) → Holds values (z +ℤ f.constant) → Holds l z ↔ MeetsIn values r (z +ℤ f.constant)) where
+    pub made_between : (p : Point) → SumIn (In s) f.terms l.low l.high p → Kept (In s) f r p
+    made_between p w =
+        let hu = hull w.point.some in
+        let m = (each (terms_value p.values f.terms) (value_in (In s) f values hu p w.point)).0 (record { above = w.above; below = w.below }) in
+        record { point = w.point; meets = meets_of (In s) f values r (form_value p.values f) hu m }
+
     pub kept_between : t.full ≡ s.full → t.array_full ≡ s.array_full → ((p : Point) → SumIn (In s) f.terms l.low l.high p → In t p)
         → ((p : Point) → In t p → IsSpanned (length s.full) (length s.array_full) (SumIn (In s) f.terms l.low l.high) p) → Leaves s t (Kept (In s) f r)
     kept_between e g kept spanned = record {

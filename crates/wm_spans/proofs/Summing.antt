@@ -137,6 +137,18 @@ no_term_spanned s r h k p i = own_spanned (length s.full) (length s.array_full) 
 pub one_kept : (s t : Spanned) (w : Term) (r : Interval) → t.full ≡ s.full → t.array_full ≡ s.array_full → Exactly t (Ranged (In s) w r.low r.high) → (p : Point) → SumIn (In s) (w ∷ []) r.low r.high p → In t p
 one_kept s t w r f g e p h = e.kept p (moved_in s t p f g (in_full s p h.point)) (record { point = h.point; above = omega (arith, ints, h.above); below = omega (arith, ints, h.below) })
 
+pub no_term_made : (s : Spanned) (r : Interval) → r.low ≤ℤ pos 0 → pos 0 ≤ℤ r.high → (p : Point) → In s p → SumIn (In s) [] r.low r.high p
+no_term_made s r h k p i = record { point = i; above = h; below = k }
+
+pub one_made : (s t : Spanned) (w : Term) (r : Interval) → Exactly t (Ranged (In s) w r.low r.high) → (p : Point) → In t p → SumIn (In s) (w ∷ []) r.low r.high p
+one_made s t w r e p i =
+    let h = e.made p i in
+    record { point = h.point; above = omega (arith, ints, h.above); below = omega (arith, ints, h.below) }
+
+-- two cuts keep points alone
+pub twice_fewer : (s t u : Spanned) (a b : Term) (l1 h1 l2 h2 : ℤ) → Exactly t (Ranged (In s) a l1 h1) → Exactly u (Ranged (In t) b l2 h2) → (p : Point) → In u p → In s p
+twice_fewer s t u a b l1 h1 l2 h2 e f p i = (e.made p (f.made p i).point).point
+
 pub one_spanned : (s t : Spanned) (w : Term) (r : Interval) → Exactly t (Ranged (In s) w r.low r.high) → (p : Point) → In t p → IsSpanned (length s.full) (length s.array_full) (SumIn (In s) (w ∷ []) r.low r.high) p
 one_spanned s t w r e p i =
     let h = e.made p i in
@@ -222,6 +234,9 @@ near_unfit s v t d r fit each p n = record {
 -- no point was left
 pub cleared_spanned : (s t : Spanned) (n m : ℕ) (P : Point → Type 0) → t ≡ record s { empty = true } → (p : Point) → In t p → IsSpanned n m P p
 cleared_spanned s t n m P e p i = not_both (sym (ap (λ (u : Spanned). u.empty) e) ∙ i.some)
+
+pub cleared_none : (s t : Spanned) (P : Point → Type 0) → t ≡ record s { empty = true } → (p : Point) → In t p → P p
+cleared_none s t P e p i = not_both (sym (ap (λ (u : Spanned). u.empty) e) ∙ i.some)
 
 pub above_none : (s t : Spanned) (r : Interval) → pos 0 <ℤ r.low → (p : Point) → SumIn (In s) [] r.low r.high p → In t p
 above_none s t r h p w = absurd (let a = w.above in omega (arith, ints))

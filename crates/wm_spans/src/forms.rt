@@ -3,6 +3,7 @@
 ghost use Rattle.std.specs.Prelude.{◌≡◌, ◌≢◌, ◌↔◌, ◌<◌, ◌^◌, [], ◌∷◌, false, ℤ, ◌+ℤ◌, unsigned_abs, length, MatchOption, IfSome};
 ghost use Rattle.wm_interval.specs.Holds.{Holds, IsHullOf, SizesBelow};
 ghost use Rattle.wm_domain.specs.Forms.{AreTerms, IsForm, IsSimple};
+ghost use Rattle.wm_domain.specs.Points.{Point};
 ghost use Rattle.wm_domain.specs.Changes.{Kept, Assigned, IsFormValue};
 ghost use Rattle.wm_domain.specs.declared.form.Relation.TheVariants.{NotEqual};
 ghost use Rattle.wm_spans.specs.Exact.{MeetsIn};
@@ -71,6 +72,8 @@ impl Spans {
     pub fn keep(&mut self, f: &Form, r: Relation)
         requires form { IsForm (length self.old.full) f.now }
         ensures leaves { Leaves self.old self.new (Kept (In self.old) f.now r) }
+        ensures fewer { (p : Point) → In self.new p → In self.old p }
+        ensures made { IsSimple f.now.terms → (p : Point) → In self.new p → Kept (In self.old) f.now r p }
     {
         let values = self.form_range(f);
         match limits(values, f.constant, r) {

@@ -165,8 +165,8 @@ impl Spans {
         }
     }
 
-    // takes over the ranges and the summaries of another, which has points
-    pub(crate) fn become_like(&mut self, other: &Spans)
+    /// Takes over the ranges and the summaries of another, which has points and the same full ranges.
+    pub fn become_like(&mut self, other: &Spans)
         requires full { self.old.full ≡ other.now.full }
         requires array_full { self.old.array_full ≡ other.now.array_full }
         ensures value { self.new ≡ record other.now { empty = false } }

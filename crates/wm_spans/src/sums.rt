@@ -3,7 +3,7 @@
 ghost use Rattle.std.specs.Prelude.{◌≡◌, ◌≢◌, ◌<◌, ◌^◌, [], ◌∷◌, length};
 ghost use Rattle.wm_interval.specs.Holds.{SizesBelow};
 ghost use Rattle.wm_domain.specs.Points.{Point, range_at};
-ghost use Rattle.wm_domain.specs.Forms.{AreTerms};
+ghost use Rattle.wm_domain.specs.Forms.{AreTerms, IsSimple};
 ghost use Rattle.wm_spans.specs.Spanned.{Lies};
 
 use crate::spans::Spans;
@@ -23,6 +23,8 @@ impl Spans {
         ensures array_full { self.new.array_full ≡ self.old.array_full }
         ensures kept { (p : Point) → SumIn (In self.old) terms.now r.low r.high p → In self.new p }
         ensures spanned { (p : Point) → In self.new p → IsSpanned (length self.old.full) (length self.old.array_full) (SumIn (In self.old) terms.now r.low r.high) p }
+        ensures fewer { (p : Point) → In self.new p → In self.old p }
+        ensures made { IsSimple terms.now → (p : Point) → In self.new p → SumIn (In self.old) terms.now r.low r.high p }
     {
         match terms.split_first() {
             None => self.keep_where(r),
@@ -39,6 +41,7 @@ impl Spans {
         ensures array_full { self.new.array_full ≡ self.old.array_full }
         ensures kept { (p : Point) → SumIn (In self.old) [] r.low r.high p → In self.new p }
         ensures spanned { (p : Point) → In self.new p → IsSpanned (length self.old.full) (length self.old.array_full) (SumIn (In self.old) [] r.low r.high) p }
+        ensures made { (p : Point) → In self.new p → SumIn (In self.old) [] r.low r.high p }
     {
         if r.low > 0 {
             self.clear();
@@ -59,6 +62,7 @@ impl Spans {
         ensures array_full { self.new.array_full ≡ self.old.array_full }
         ensures kept { (p : Point) → SumIn (In self.old) (t ∷ []) r.low r.high p → In self.new p }
         ensures spanned { (p : Point) → In self.new p → IsSpanned (length self.old.full) (length self.old.array_full) (SumIn (In self.old) (t ∷ []) r.low r.high) p }
+        ensures made { (p : Point) → In self.new p → SumIn (In self.old) (t ∷ []) r.low r.high p }
     {
         self.cut_term(t, r);
     }
@@ -74,6 +78,7 @@ impl Spans {
         ensures array_full { self.new.array_full ≡ self.old.array_full }
         ensures kept { (p : Point) → SumIn (In self.old) (a ∷ b ∷ []) r.low r.high p → In self.new p }
         ensures spanned { (p : Point) → In self.new p → IsSpanned (length self.old.full) (length self.old.array_full) (SumIn (In self.old) (a ∷ b ∷ []) r.low r.high) p }
+        ensures fewer { (p : Point) → In self.new p → In self.old p }
     {
         let b_range = self.term_range(b);
         self.cut_term(a, r.sub(b_range));

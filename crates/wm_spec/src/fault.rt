@@ -6,7 +6,7 @@ use wm_lang::Name;
 use wm_ops::NoMemory;
 
 /// Why a specification was not read.
-#[derive(Debug, Drop)]
+#[derive(Drop)]
 pub enum SpecFault {
     /// The bytes are no TOML document.
     NotToml,

@@ -1,4 +1,2 @@
-pub mod Following
 pub mod Images
 pub mod Operating
-pub mod Ranges

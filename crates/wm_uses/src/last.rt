@@ -6,8 +6,8 @@ use std::alloc::Global;
 use wm_flow::{Action, Edge, Graph, Head};
 use wm_ops::NoMemory;
 
-/// The call's node on a return.
-fn call_of(action: &Action) -> Option<u32>
+/// The call's node, whose state a return takes too; none on other edges.
+pub fn call_of(action: &Action) -> Option<u32>
     ensures { result ≡ call_of action.now }
 {
     match action {

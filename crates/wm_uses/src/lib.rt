@@ -4,5 +4,5 @@
 mod last;
 mod room;
 
-pub use last::last_uses;
+pub use last::{call_of, last_uses};
 pub use room::width;

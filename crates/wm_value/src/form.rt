@@ -12,7 +12,7 @@ pub struct Sight {
 }
 
 /// What `&a[e]` tells before its index is read.
-#[derive(Clone, Copy, Debug)]
+#[derive(Clone, Copy)]
 pub struct Begun {
     /// The array, where it is one.
     pub sight: Option<Sight>,
@@ -20,7 +20,7 @@ pub struct Begun {
 }
 
 /// What an expression is. Where something is wrong inside, the kind stands and the tree is a stand-in.
-#[derive(Debug, Drop)]
+#[derive(Drop)]
 pub enum Value {
     Number(Expr),
     /// A comparison or a logical value.
@@ -37,7 +37,7 @@ pub enum Value {
 }
 
 /// How a sum begins where a view may stand.
-#[derive(Clone, Copy, Debug)]
+#[derive(Clone, Copy)]
 pub enum Head {
     /// With a number.
     Number,

@@ -2,11 +2,11 @@
 #![tactic(auto)]
 
 pub mod laws;
-mod loops;
-mod numbers;
-mod sweep;
+pub mod loops;
+pub mod numbers;
+pub mod sweep;
 mod ways;
-mod whole;
+pub mod whole;
 
 pub use ways::{Turning, Way};
 pub use whole::greatest_weight;

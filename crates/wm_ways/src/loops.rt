@@ -12,7 +12,7 @@ use std::alloc::{AllocError, Global};
 
 /// The edges from one number up to another.
 #[tactic(auto, unfolding(crate::specs::Sweeps::stretch))]
-fn stretch(ways: &[Way], from: usize, to: usize) -> &[Way]
+pub fn stretch(ways: &[Way], from: usize, to: usize) -> &[Way]
     ensures { result.now ≡ stretch ways.now from to }
 {
     let to = to.min(ways.len());

@@ -4,7 +4,8 @@ ghost use Rattle.wm_ways.specs.Numbers.{cut, along, greater, or_nought};
 
 const LIMIT: u64 = 1_000_000_000_000_001;
 
-fn cut(n: u128) -> u64
+/// A number, with those above 10^15 all alike.
+pub fn cut(n: u128) -> u64
     ensures { result ≡ cut n }
 {
     if n < 1_000_000_000_000_001 {

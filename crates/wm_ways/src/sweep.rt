@@ -59,7 +59,8 @@ pub fn way_at(ways: &[Way], place: usize) -> Way
     ways[place]
 }
 
-/// Takes the edges from the last to the first.
+/// Takes the edges from the last to the first: what is known at the source of an open edge becomes the greater of what was known
+/// there and of what the edge tells.
 pub fn sweep(best: &mut Vec<Option<u64>>, first: u32, added: &[u64], ways: &[Way])
     ensures { best.new.items ≡ swept first added.now ways.now best.old.items }
 {

@@ -8,8 +8,10 @@ use crate::sweep::{best_at, ending_in, sweep};
 use crate::ways::{Turning, Way};
 use std::alloc::{AllocError, Global};
 
+/// The number of the first edge from each of so many nodes, where the edges stand in the order of their sources; that of the
+/// edges where none leads from it.
 #[tactic(auto, unfolding(crate::specs::Whole::firsts_of))]
-fn firsts_of(alloc: Global, ways: &[Way], nodes: usize) -> Result<Vec<usize>, AllocError>
+pub fn firsts_of(alloc: Global, ways: &[Way], nodes: usize) -> Result<Vec<usize>, AllocError>
     ensures { IfOk result (λ firsts. firsts.items ≡ firsts_of ways.now nodes) }
 {
     let mut firsts = vec![in alloc; ways.len(); nodes]?;
@@ -17,8 +19,9 @@ fn firsts_of(alloc: Global, ways: &[Way], nodes: usize) -> Result<Vec<usize>, Al
     Ok(firsts)
 }
 
+/// The loop of each of so many nodes that is a head.
 #[tactic(auto, unfolding(crate::specs::Whole::marks_of))]
-fn marks_of(
+pub fn marks_of(
     alloc: Global,
     turnings: &[Turning],
     nodes: usize,
@@ -30,8 +33,9 @@ fn marks_of(
     Ok(marks)
 }
 
+/// What is added at each of so many nodes: at a head its turns times the greatest weight of one of them.
 #[tactic(auto, unfolding(crate::specs::Whole::added_of))]
-fn added_of(
+pub fn added_of(
     alloc: Global,
     ways: &[Way],
     firsts: &[usize],
@@ -46,7 +50,7 @@ fn added_of(
 }
 
 /// The part of a slice from a place on.
-fn from_place<T>(items: &[T], place: usize) -> &[T]
+pub fn from_place<T>(items: &[T], place: usize) -> &[T]
     ensures { result.now ≡ drop place items.now }
 {
     let place = place.min(items.len());

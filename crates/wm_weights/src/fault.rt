@@ -3,7 +3,7 @@ use wm_lang::Name;
 use wm_ops::NoMemory;
 
 /// Why a weights file gave no weights.
-#[derive(Debug, Drop)]
+#[derive(Drop)]
 pub enum WeightFault {
     /// The bytes are no TOML document.
     NotToml,

@@ -3,7 +3,5 @@
 
 mod command;
 mod stages;
-#[cfg(test)]
-mod tests;
 
 pub use command::{Command, read_words};

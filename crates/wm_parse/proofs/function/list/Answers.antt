@@ -1,9 +1,9 @@
 use Rattle.std.proofs.Common.{rules, arith}
 use Rattle.std.proofs.lemmas.Grind.{common_steps}
-use Rattle.wm_parse.specs.Inputs.{input_of}
-use Rattle.wm_parse.specs.Expressions.{commas}
+use Rattle.wm_cursor.specs.Inputs.{input_of}
+use Rattle.wm_expressions.specs.Expressions.{commas}
 use Rattle.wm_parse.specs.Functions.{parameter}
-use Rattle.wm_parse.proofs.Turns.{one_more}
+use Rattle.wm_expressions.proofs.Turns.{one_more}
 use Rattle.wm_parse.proofs.function.list.Goals as goal
 
 pub loop-turn-preserved : goal.loop-turn-preserved

@@ -1,7 +1,7 @@
 -- What is left is read behind what was found, as the whole list is.
 use Rattle.std.proofs.Common.{◌≡◌, ◌-◌}
-use Rattle.wm_parse.specs.Inputs.{input_of}
-use Rattle.wm_parse.specs.Expressions.{commas}
+use Rattle.wm_cursor.specs.Inputs.{input_of}
+use Rattle.wm_expressions.specs.Expressions.{commas}
 use Rattle.wm_parse.specs.Functions.{list, parameter}
 use Rattle.wm_parse.proofs.function.list.Given as goal
 

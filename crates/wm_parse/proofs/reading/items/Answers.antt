@@ -1,8 +1,8 @@
 use Rattle.std.proofs.Common.{rules, arith}
 use Rattle.std.proofs.lemmas.Grind.{common_steps}
-use Rattle.wm_parse.specs.Inputs.{input_of}
+use Rattle.wm_cursor.specs.Inputs.{input_of}
 use Rattle.wm_parse.specs.Units.{more_items}
-use Rattle.wm_parse.proofs.Turns.{one_more}
+use Rattle.wm_expressions.proofs.Turns.{one_more}
 use Rattle.wm_parse.proofs.reading.items.Goals as goal
 
 pub loop-turn-preserved : goal.loop-turn-preserved

@@ -1,6 +1,6 @@
 -- The items that are left are read behind those that were found, as all are.
 use Rattle.std.proofs.Common.{◌≡◌, ◌-◌}
-use Rattle.wm_parse.specs.Inputs.{input_of}
+use Rattle.wm_cursor.specs.Inputs.{input_of}
 use Rattle.wm_parse.specs.Units.{items, more_items}
 use Rattle.wm_parse.proofs.reading.items.Given as goal
 

@@ -9,3 +9,6 @@ returns-clause-sound c = exactly_keeps _ _ (subst (λ (xs : List Interval). Exac
 
 pub returns-clause-least : goal.returns-clause-least
 returns-clause-least c = exactly_least _ _ (subst (λ (xs : List Interval). Exactly c.in_ok-spans.spans (IsBlank (length xs))) c.items-2.ensures.items c.in_ok-spans.ensures.points)
+
+pub returns-clause-unset : goal.returns-clause-unset
+returns-clause-unset c = (subst (λ (xs : List Interval). Exactly c.in_ok-spans.spans (IsBlank (length xs))) c.items-2.ensures.items c.in_ok-spans.ensures.points).made

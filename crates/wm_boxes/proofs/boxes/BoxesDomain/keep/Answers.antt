@@ -1,6 +1,7 @@
 use Rattle.std.proofs.Common.{refl}
 use Rattle.wm_boxes.proofs.Least.{same_shape, leaves_keeps, leaves_least}
 use Rattle.wm_boxes.specs.Laws.{of_form}
+use Rattle.wm_boxes.proofs.Others.{simple_bounded}
 use Rattle.wm_boxes.proofs.boxes.BoxesDomain.keep.Goals as goal
 
 pub keep-requires : goal.keep-requires
@@ -14,3 +15,9 @@ returns-clause-sound c = leaves_keeps c.args.self.now.group c.args.self.now.span
 
 pub returns-clause-least : goal.returns-clause-least
 returns-clause-least c = leaves_least c.args.self.now.group c.args.self.now.spans _ _ refl (c.keep.ensures.leaves)
+
+pub returns-clause-fewer : goal.returns-clause-fewer
+returns-clause-fewer c = c.keep.ensures.fewer
+
+pub returns-clause-made : goal.returns-clause-made
+returns-clause-made c = λ bounded. c.keep.ensures.made (simple_bounded _ c.args.f.now.terms bounded)

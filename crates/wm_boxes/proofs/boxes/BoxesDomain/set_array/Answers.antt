@@ -11,3 +11,6 @@ returns-clause-sound c = leaves_keeps c.args.self.now.group c.args.self.now.span
 
 pub returns-clause-least : goal.returns-clause-least
 returns-clause-least c = leaves_least c.args.self.now.group c.args.self.now.spans _ _ refl (exactly_left c.args.self.now.spans c.set_array.new.self _ c.set_array.ensures.full c.set_array.ensures.array_full c.set_array.ensures.points)
+
+pub returns-clause-made : goal.returns-clause-made
+returns-clause-made c = c.set_array.ensures.points.made

@@ -1,4 +1,4 @@
-use Rattle.wm_spans.proofs.Summing.{one_kept, one_spanned}
+use Rattle.wm_spans.proofs.Summing.{one_kept, one_spanned, one_made}
 use Rattle.wm_spans.proofs.spans.Spans.keep_term.Goals as goal
 
 pub returns-clause-kept : goal.returns-clause-kept
@@ -6,3 +6,6 @@ returns-clause-kept c = one_kept c.args.self.now c.cut_term.new.self c.args.t c.
 
 pub returns-clause-spanned : goal.returns-clause-spanned
 returns-clause-spanned c = one_spanned c.args.self.now c.cut_term.new.self c.args.t c.args.r c.cut_term.ensures.points
+
+pub returns-clause-made : goal.returns-clause-made
+returns-clause-made c = one_made c.args.self.now c.cut_term.new.self c.args.t c.args.r c.cut_term.ensures.points

@@ -1,0 +1,4 @@
+pub mod Holding
+pub mod Trying
+pub mod Going
+pub mod Ending

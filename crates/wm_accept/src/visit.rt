@@ -1,0 +1,146 @@
+// One node of the walk.
+ghost use Rattle.std.specs.Prelude.{◌≡◌, ◌<◌, ◌+◌, length, slice_set, All, IfOk, OnOk};
+ghost use Rattle.wm_domain.specs.States.{IsShape};
+ghost use Rattle.wm_images.specs.Labels.{AreShaped, Receives};
+ghost use Rattle.wm_images.specs.Nodes.{node_shape};
+ghost use Rattle.wm_walk.specs.Graphs.{AreDrawn, AreStates};
+ghost use Rattle.wm_walk.specs.Rows.{AreRows};
+ghost use Rattle.wm_accept.specs.Entries.{AreTried};
+ghost use Rattle.wm_accept.specs.Standing.{Standing};
+
+use crate::entries::{Entry, head_at, state_at, tried};
+use crate::watcher::Watcher;
+use std::alloc::Global;
+use wm_domain::Domain;
+use wm_flow::{Graph, Head};
+use wm_images::Images;
+use wm_kept::Kept;
+use wm_ops::NoMemory;
+use wm_program::Program;
+use wm_walk::{Rows, ended_at, give_up_all, head_of, into_at, keep, label_of};
+
+fn set_entry(entries: &mut [Entry], place: usize, entry: Entry)
+    ensures { entries.new ≡ slice_set entries.old place entry }
+{
+    if place < entries.len() {
+        entries[place] = entry;
+    }
+}
+
+/// Tries the entry edge of a head, which stands at the node of the number.
+fn try_head<D: Domain, M: Images<D>>(
+    alloc: Global,
+    images: &M,
+    graph: &Graph,
+    states: &[D],
+    kept: &Kept<D>,
+    number: u32,
+    entries: &mut [Entry],
+    live: &mut [bool],
+) -> Result<(), NoMemory>
+    requires drawn { AreDrawn M.drawn graph.now }
+    requires states { AreStates D.shape_of graph.now states.now }
+    requires kept { AreShaped D.shape_of graph.now kept.now.1 }
+    ensures same { length live.new ≡ length live.old }
+    ensures tried { OnOk result (AreTried M.allowed D.holds D.shape_of graph.now states.now kept.now.1 entries.old entries.new) }
+{
+    let Some(head) = head_at(graph, number) else {
+        return Err(NoMemory);
+    };
+    let Some(state) = state_at(states, number) else {
+        return Err(NoMemory);
+    };
+    let entry = tried(
+        alloc, images, graph, kept, head.entry, head.node, state, live,
+    )?;
+    set_entry(entries, number as usize, entry);
+    Ok(())
+}
+
+/// Tries the entry edge of the head at a node, where there is one.
+fn try_entry<D: Domain, M: Images<D>>(
+    alloc: Global,
+    images: &M,
+    graph: &Graph,
+    states: &[D],
+    kept: &Kept<D>,
+    head: Option<u32>,
+    entries: &mut [Entry],
+    live: &mut [bool],
+) -> Result<(), NoMemory>
+    requires drawn { AreDrawn M.drawn graph.now }
+    requires states { AreStates D.shape_of graph.now states.now }
+    requires kept { AreShaped D.shape_of graph.now kept.now.1 }
+    ensures same { length live.new ≡ length live.old }
+    ensures tried { OnOk result (AreTried M.allowed D.holds D.shape_of graph.now states.now kept.now.1 entries.old entries.new) }
+{
+    match head {
+        None => Ok(()),
+        Some(number) => try_head(alloc, images, graph, states, kept, number, entries, live),
+    }
+}
+
+/// Shows the label of a node, which is kept.
+fn show<D: Domain, W: Watcher<D>>(
+    alloc: Global,
+    program: &Program,
+    graph: &Graph,
+    kept: &Kept<D>,
+    node: u32,
+    watcher: &mut W,
+) -> Result<(), NoMemory>
+    requires kept { AreShaped D.shape_of graph.now kept.now.1 }
+    requires next { W.next watcher.old node }
+    ensures next { OnOk result (W.next watcher.new (node + 1)) }
+{
+    match kept.get(node) {
+        None => Err(NoMemory),
+        Some(label) => watcher.see(alloc, program, graph, node, label),
+    }
+}
+
+/// Makes the label of a node, keeps and shows it, tries the entry edge of the head at the node, and gives up the labels that no
+/// node behind this one needs.
+pub(crate) fn visit<D: Domain, M: Images<D>, W: Watcher<D>>(
+    alloc: Global,
+    images: &M,
+    program: &Program,
+    graph: &Graph,
+    states: &[D],
+    rows: &Rows,
+    kept: &mut Kept<D>,
+    entries: &mut [Entry],
+    live: &mut [bool],
+    watcher: &mut W,
+    node: u32,
+) -> Result<(), NoMemory>
+    requires inside { node < length graph.now.node_shape }
+    requires rows { AreRows graph.now rows.now }
+    requires drawn { AreDrawn M.drawn graph.now }
+    requires shapes { All IsShape graph.now.shapes }
+    requires states { AreStates D.shape_of graph.now states.now }
+    requires standing { Standing M.allowed M.started D.holds D.shape_of program.now graph.now states.now kept.old.1 entries.old node }
+    requires next { W.next watcher.old node }
+    ensures same { length live.new ≡ length live.old }
+    ensures standing { OnOk result (Standing M.allowed M.started D.holds D.shape_of program.now graph.now states.now kept.new.1 entries.new (node + 1)) }
+    ensures next { OnOk result (W.next watcher.new (node + 1)) }
+{
+    let head = head_of(rows, node);
+    let label = label_of(
+        alloc,
+        images,
+        program,
+        graph,
+        states,
+        kept,
+        head,
+        into_at(rows, node),
+        live,
+        node,
+    )?;
+    keep(kept, node, label)?;
+    try_entry(alloc, images, graph, states, kept, head, entries, live)?;
+    show(alloc, program, graph, kept, node, watcher)?;
+    give_up_all(kept, ended_at(rows, node));
+    Ok(())
+}

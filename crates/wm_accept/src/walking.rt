@@ -1,0 +1,83 @@
+// The walk over all nodes.
+ghost use Rattle.std.specs.Prelude.{◌≡◌, length, replicate, All, IfOk, IfNone};
+ghost use Rattle.wm_domain.specs.States.{IsShape};
+ghost use Rattle.wm_labels.specs.Accepted.{IsAccepted};
+ghost use Rattle.wm_walk.specs.Graphs.{AreDrawn, AreStates};
+
+use crate::entries::Entry;
+use crate::gaps::first_gap;
+use crate::visit::visit;
+use crate::watcher::Watcher;
+use std::alloc::Global;
+use wm_cert::Gap;
+use wm_domain::Domain;
+use wm_flow::Graph;
+use wm_images::Images;
+use wm_kept::Kept;
+use wm_ops::NoMemory;
+use wm_program::Program;
+use wm_walk::rows_of;
+
+/// So many edges that were not looked at.
+fn unseen(alloc: Global, count: usize) -> Result<Vec<Entry>, NoMemory>
+    ensures { IfOk result (λ list. list.items ≡ replicate count Entry.Unseen) }
+{
+    let mut list = Vec::new(alloc);
+    for k in 0..count {
+        list.push(Entry::Unseen)?;
+    }
+    Ok(list)
+}
+
+/// Walks the nodes in their order with the states of the heads, shows the label of each node, and notes of each edge whether its
+/// image has a point. None where the states are accepted; else the first gap, in the order of the heads, entry before back edge,
+/// lines in the order of a certificate's text.
+///
+/// `NoMemory`: memory ran out, or the graph is none of a program.
+pub fn walk<D: Domain, M: Images<D>, W: Watcher<D>>(
+    alloc: Global,
+    images: &M,
+    program: &Program,
+    graph: &Graph,
+    states: &[D],
+    live: &mut [bool],
+    watcher: &mut W,
+) -> Result<Option<Gap>, NoMemory>
+    requires drawn { AreDrawn M.drawn graph.now }
+    requires shapes { All IsShape graph.now.shapes }
+    requires states { AreStates D.shape_of graph.now states.now }
+    requires next { W.next watcher.old 0 }
+    ensures same { length live.new ≡ length live.old }
+    ensures accepted { IfOk result (λ gap. IfNone gap (IsAccepted M.allowed M.started D.holds D.shape_of program.now graph.now states.now)) }
+{
+    let rows = rows_of(alloc, graph)?;
+    let Ok(count) = u32::try_from(graph.node_shape.items().len()) else {
+        return Err(NoMemory);
+    };
+    let mut kept = Kept::new(alloc, rows.room)?;
+    let mut entries = unseen(alloc, graph.heads.items().len())?;
+    for node in 0..count {
+        visit(
+            alloc,
+            images,
+            program,
+            graph,
+            states,
+            &rows,
+            &mut kept,
+            entries.as_mut_slice(),
+            live,
+            watcher,
+            node,
+        )?;
+    }
+    first_gap(
+        alloc,
+        images,
+        graph,
+        states,
+        &kept,
+        entries.as_slice(),
+        live,
+    )
+}

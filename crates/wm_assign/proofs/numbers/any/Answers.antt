@@ -1,0 +1,12 @@
+use Rattle.std.proofs.Common.{subst, ◌∙◌}
+use Rattle.wm_domain.specs.declared.shape.Shape.{Shape}
+use Rattle.wm_domain.specs.States.{InShape}
+use Rattle.wm_assign.proofs.Setting.{keeps_any}
+use Rattle.wm_assign.proofs.numbers.any.Goals as goal
+
+pub returns-clause-sound : goal.returns-clause-sound
+returns-clause-sound g c =
+    let way = c.args.way.now in
+    keeps_any g.D.Domain.holds g.D.Domain.shape_of c.in_ok-state.state c.assign_range.new.self way.source.now way.target.now (g.D.Domain.holds c.args.at.now) c.args.v c.args.r c.requires.way
+    (λ x h. subst (λ (sh : Shape). InShape sh x) c.requires.shape (g.met.D.Domain.inside c.args.at.now x h))
+    c.requires.inside c.in_ok-state.ensures.shape (c.assign_range.ensures.shape ∙ c.in_ok-state.ensures.shape) c.in_ok-state.ensures.sound c.assign_range.ensures.sound

@@ -1,0 +1,10 @@
+use Rattle.std.proofs.Common.{◌≡◌}
+use Rattle.wm_domain.specs.States.{Keeps}
+use Rattle.wm_cleared.specs.Dropping.{Reset}
+use Rattle.wm_cleared.proofs.counters.reset.Given as goal
+
+abbrev pub invariant-loop-k : goal.invariant-loop-k
+invariant-loop-k g l = record {
+  shape : g.D.Domain.shape_of l.state ≡ l.way.target.now;
+  sound : Keeps g.D.Domain.holds g.D.Domain.shape_of l.state (Reset l.way.source.now l.way.target.now (g.D.Domain.holds l.at) l.counters);
+}

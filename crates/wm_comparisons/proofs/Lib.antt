@@ -1,0 +1,2 @@
+pub mod SidesDrawn
+pub mod Subtracted

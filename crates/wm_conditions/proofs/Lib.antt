@@ -1,0 +1,2 @@
+pub mod ConditionsDrawn
+pub mod Evaluated

@@ -1,0 +1,4 @@
+pub mod LoopEdges
+pub mod NamesMade
+pub mod PiecesJoin
+pub mod SmallPieces

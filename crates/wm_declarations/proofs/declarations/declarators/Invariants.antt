@@ -1,0 +1,9 @@
+-- What is left is read behind what was found, as the whole list is.
+use Rattle.std.proofs.Common.{◌≡◌, ◌-◌}
+use Rattle.wm_cursor.specs.Inputs.{input_of}
+use Rattle.wm_expressions.specs.Expressions.{commas}
+use Rattle.wm_declarations.specs.Declarations.{declarators, named}
+use Rattle.wm_declarations.proofs.declarations.declarators.Given as goal
+
+abbrev pub invariant-loop-turn : goal.invariant-loop-turn
+invariant-loop-turn l = declarators l.depth l.fn.name (input_of l.fn.tokens) ≡ commas (named l.depth) (l._turn-end - l._turn) l.found (input_of l.tokens)

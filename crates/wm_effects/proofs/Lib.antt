@@ -1,0 +1,3 @@
+pub mod EffectsDrawn
+pub mod NamesMade
+pub mod StoresDrawn

@@ -1,0 +1,12 @@
+use Rattle.std.proofs.Common.{rules, arith}
+use Rattle.std.proofs.lemmas.Grind.{common_steps}
+use Rattle.wm_expressions.specs.declared.grammar.Reach.TheVariants.{Whole}
+use Rattle.wm_cursor.specs.Inputs.{input_of}
+use Rattle.wm_expressions.specs.Expressions.{commas, deeper}
+use Rattle.wm_expressions.proofs.Turns.{one_more}
+use Rattle.wm_expressions.proofs.grammar.Grammar.list.Goals as goal
+
+pub loop-turn-preserved : goal.loop-turn-preserved
+loop-turn-preserved g c =
+    let e = one_more (λ n. commas (deeper c.args.self.now.depth Whole) n c.loop-turn.found (input_of c.loop-turn.tokens)) _ c.loop-turn._turn c.loop-turn-test.true c.loop-turn.invariant in
+    first_of (search rules, grind (arith, common_steps))

@@ -1,0 +1,5 @@
+pub mod Demo
+pub mod Observed
+pub mod Places
+pub mod Report
+pub mod Sites

@@ -1,0 +1,6 @@
+//! The numbers of an interval between two values of a form.
+#![tactic(auto)]
+
+mod cuts;
+
+pub use cuts::cut;

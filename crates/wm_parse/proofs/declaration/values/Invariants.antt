@@ -1,8 +1,0 @@
--- What is left is read behind what was found, as the whole list is.
-use Rattle.std.proofs.Common.{◌≡◌, ◌-◌}
-use Rattle.wm_parse.specs.Inputs.{input_of}
-use Rattle.wm_parse.specs.Declarations.{more_values, values}
-use Rattle.wm_parse.proofs.declaration.values.Given as goal
-
-abbrev pub invariant-loop-turn : goal.invariant-loop-turn
-invariant-loop-turn l = values l.depth (input_of l.fn.tokens) ≡ more_values l.depth (l._turn-end - l._turn) l.found (input_of l.tokens)

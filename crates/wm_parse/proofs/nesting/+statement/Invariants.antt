@@ -1,4 +1,0 @@
-use Rattle.wm_parse.proofs.nesting.+statement.Given as goal
-
-abbrev pub decreases-statement : goal.decreases-statement
-decreases-statement l = l.depth

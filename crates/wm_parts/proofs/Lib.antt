@@ -1,0 +1,3 @@
+pub mod PartsDrawn
+pub mod SizesTold
+pub mod StrokesDrawn

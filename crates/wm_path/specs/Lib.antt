@@ -1,0 +1,4 @@
+pub mod Fields
+pub mod Picks
+pub mod Bodies
+pub mod Worst

@@ -1,0 +1,8 @@
+// The first of the paths of greatest weight.
+ghost use Rattle.wm_path_laws.specs.Paths.{PicksTheFirst};
+
+/// It does nothing: its contract tells that the edges which are picked are a path to an end, that it weighs what is known at
+/// its beginning, that no path to an end weighs more, and that none of the same weight comes before it in the order of lists.
+pub fn pick_laws()
+    ensures picks_the_first { PicksTheFirst }
+{}

@@ -1,0 +1,7 @@
+//! Ties beside ranges and summaries, drawn for variables and arrays that are picked of others.
+#![tactic(auto)]
+
+mod drawn;
+mod projecting;
+
+pub use projecting::projected;

@@ -1,0 +1,86 @@
+// The projection.
+
+ghost use Rattle.std.specs.Prelude.{◌≡◌, ℕ, ◌<◌, ◌≤◌, ◌+◌, length, slice_index_or, Some, None, IfOk, All};
+ghost use Rattle.wm_domain.specs.Points.{Point, IsNarrow};
+ghost use Rattle.wm_domain.specs.Changes.{Projected, ArePicks};
+ghost use Rattle.wm_tied.specs.Pointed.{In, HasPoint};
+ghost use Rattle.wm_tied.specs.Leaving.{IsLeft};
+ghost use Rattle.wm_tied.specs.Projecting.{ArePicked};
+
+use crate::drawn::{drawn_ranges, fitted, without_points};
+use std::alloc::Global;
+use wm_interval::Interval;
+use wm_ops::NoMemory;
+use wm_tied::{Tied, cut_all, kept_picks};
+
+/// The state of other full ranges whose variable k, through the group and then the singles, is the variable `picks[k]`, or has
+/// any number of its full range where that is None, and whose array k is the array `array_picks[k]`, or has no set cell where
+/// that is None. No variable and no array is picked twice. `NoMemory`: memory ran out.
+pub fn projected(
+    tied: &Tied,
+    alloc: Global,
+    group: &[Interval],
+    singles: &[Interval],
+    arrays: &[Interval],
+    picks: &[Option<u32>],
+    array_picks: &[Option<u32>],
+) -> Result<Tied, NoMemory>
+    requires few { length group.now ≤ 32 }
+    requires group { All IsNarrow group.now }
+    requires singles { All IsNarrow singles.now }
+    requires long { length picks.now ≡ length group.now + length singles.now }
+    requires arrays_long { length array_picks.now ≡ length arrays.now }
+    requires picks { ArePicks (length tied.now.group + length tied.now.spans.full) picks.now }
+    requires array_picks { ArePicks (length tied.now.spans.array_full) array_picks.now }
+    ensures group { IfOk result (λ t. t.group ≡ group.now) }
+    ensures full { IfOk result (λ t. t.spans.full ≡ singles.now) }
+    ensures array_full { IfOk result (λ t. t.spans.array_full ≡ arrays.now) }
+    ensures left { IfOk result (λ t. IsLeft t (Projected (In tied.now) picks.now array_picks.now)) }
+{
+    let fit = fitted(tied, alloc, group, singles, picks)?;
+    if fit.is_empty() {
+        let none = without_points(alloc, group, singles, arrays)?;
+        return Ok(none);
+    }
+    let drawn = gathered(&fit, alloc, group, singles, arrays, picks, array_picks)?;
+    Ok(drawn)
+}
+
+// the same of a state with a point, whose picked variables lie in the full ranges for their places
+fn gathered(
+    tied: &Tied,
+    alloc: Global,
+    group: &[Interval],
+    singles: &[Interval],
+    arrays: &[Interval],
+    picks: &[Option<u32>],
+    array_picks: &[Option<u32>],
+) -> Result<Tied, NoMemory>
+    requires few { length group.now ≤ 32 }
+    requires group { All IsNarrow group.now }
+    requires singles { All IsNarrow singles.now }
+    requires long { length picks.now ≡ length group.now + length singles.now }
+    requires arrays_long { length array_picks.now ≡ length arrays.now }
+    requires picks { ArePicks (length tied.now.group + length tied.now.spans.full) picks.now }
+    requires array_picks { ArePicks (length tied.now.spans.array_full) array_picks.now }
+    requires some { HasPoint tied.now }
+    requires group_lies { (p : Point) → In tied.now p → ArePicked (In tied.now) group.now picks.now 0 (length group.now) p }
+    requires singles_lie { (p : Point) → In tied.now p → ArePicked (In tied.now) singles.now picks.now (length group.now) (length singles.now) p }
+    ensures group { IfOk result (λ t. t.group ≡ group.now) }
+    ensures full { IfOk result (λ t. t.spans.full ≡ singles.now) }
+    ensures array_full { IfOk result (λ t. t.spans.array_full ≡ arrays.now) }
+    ensures left { IfOk result (λ t. IsLeft t (Projected (In tied.now) picks.now array_picks.now)) }
+{
+    let keep = kept_picks(alloc, picks, group.len(), tied.count())?;
+    let ranges = drawn_ranges(tied, alloc, group, picks, 0)?;
+    let ties = tied
+        .ties()
+        .project(alloc, keep.as_slice(), ranges.as_slice())?;
+    let mut spans = tied
+        .spans()
+        .with_arrays(alloc, &[], singles, arrays, array_picks)?;
+    let single_ranges = drawn_ranges(tied, alloc, singles, picks, group.len())?;
+    cut_all(&mut spans, single_ranges.as_slice());
+    let drawn = Tied::of_parts(alloc, group, ties, spans)?;
+    Ok(drawn)
+}

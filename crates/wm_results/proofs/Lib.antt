@@ -1,0 +1,2 @@
+pub mod CallsDrawn
+pub mod ElementsRead

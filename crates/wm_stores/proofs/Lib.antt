@@ -1,0 +1,2 @@
+pub mod DirectStores
+pub mod SpotsDrawn

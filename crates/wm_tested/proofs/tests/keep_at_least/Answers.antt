@@ -1,0 +1,13 @@
+use Rattle.std.proofs.Common.{w64, rules, ◌≡◌}
+use Rattle.std.specs.Prelude.{FitsSigned, ◌-ℤ◌}
+use Rattle.std.proofs.lemmas.Int.{to_z-of_z}
+use Rattle.wm_tested.proofs.Liking.{keeps_above}
+use Rattle.wm_tested.proofs.tests.keep_at_least.Goals as goal
+
+pub returns-clause-sound : goal.returns-clause-sound
+returns-clause-sound g c =
+    let fits : FitsSigned w64 c.args.low = search rules in
+    let constant_fits : FitsSigned w64 c.args.f.now.constant = search rules in
+    let x_fits : FitsSigned w64 c.less-constant.result = search rules in
+    let value : c.less-constant.result ≡ c.args.low -ℤ c.args.f.now.constant = simp to_z-of_z at c.less-constant.ensures.value in
+    keeps_above g.D.Domain.holds g.D.Domain.shape_of c.keep.new.self (g.D.Domain.holds c.args.state.now) c.args.f.now c.in_ok-under.under c.args.low c.less-constant.result value (simp to_z-of_z at c.in_ok-under.ensures) c.keep.ensures.sound

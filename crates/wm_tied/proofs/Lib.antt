@@ -1,0 +1,10 @@
+pub mod Bounding
+pub mod Cutting
+pub mod Forming
+pub mod Laws
+pub mod Mixed
+pub mod Nearing
+pub mod Told
+pub mod Picking
+pub mod Gathering
+pub mod Drawing

@@ -1,0 +1,5 @@
+pub mod ArmsDrawn
+pub mod BodiesDrawn
+pub mod LoopsDrawn
+pub mod Sizes
+pub mod TreesDrawn

@@ -1,0 +1,3 @@
+pub mod ArgumentsDrawn
+pub mod ChainsDrawn
+pub mod ExpressionsDrawn

@@ -1,0 +1,12 @@
+-- The shapes of the states at nodes.
+use Rattle.std.specs.Prelude.{ℕ, ◌≡◌, Option, Some, slice_get, slice_index_or}
+use Rattle.wm_domain.specs.declared.shape.Shape.{Shape}
+use Rattle.wm_flow.specs.declared.graph.Graph.{Graph}
+
+-- the shape of a node
+abbrev pub shape_at : Graph → ℕ → Option Shape
+shape_at graph node = slice_get graph.shapes (slice_index_or graph.node_shape node 0)
+
+-- this is the node's shape, where the node has one
+pub record FitsNode (graph : Graph) (node : ℕ) (shape : Shape) : Type 0 where
+  pub same : (other : Shape) → shape_at graph node ≡ Some other → shape ≡ other

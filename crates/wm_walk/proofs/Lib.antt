@@ -1,0 +1,4 @@
+pub mod Into
+pub mod Made
+pub mod Pairs
+pub mod Shaped
