@@ -3,4 +3,4 @@
 
 mod plain;
 
-pub use plain::{difference, product, sum};
+pub use plain::{difference, kept, operand, product, sum};

@@ -14,8 +14,8 @@ use wm_domain::{Domain, Form};
 use wm_given::cut;
 use wm_interval::Interval;
 
-// the numbers of 32 bits between two values of the form; None where there are none
-fn operand<D: Domain>(at: &D, f: &Form) -> Option<Interval>
+/// The numbers of 32 bits between two values of the form; None where there are none.
+pub fn operand<D: Domain>(at: &D, f: &Form) -> Option<Interval>
     requires form { IsForm (count_of (D.shape_of at.now)) f.now }
     ensures operand { IsOperand (D.holds at.now) f.now result }
 {
@@ -23,8 +23,8 @@ fn operand<D: Domain>(at: &D, f: &Form) -> Option<Interval>
     cut(at, f, all)
 }
 
-// the numbers of 32 bits of the interval
-fn kept(results: Interval) -> Option<Value>
+/// The numbers of 32 bits of the interval; None where there are none.
+pub fn kept(results: Interval) -> Option<Value>
     ensures allowed { (was : Point) (z : ℤ) → Holds results z → IsWord32 z → Allowed result was z }
     ensures fit { (s t : Shape) (v : ℕ) → IsFit s t v result }
 {
