@@ -2,3 +2,4 @@ pub mod Backwards
 pub mod Refusals
 mod ProgramRead
 mod FilesLoaded
+mod CheckLoaded

@@ -4,3 +4,5 @@ pub mod Loaded
 pub mod Loading
 pub mod Replay
 pub mod Replaying
+pub mod Check
+pub mod Checking

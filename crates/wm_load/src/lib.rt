@@ -2,9 +2,11 @@
 //! the first refusal in the order of a call.
 #![tactic(auto)]
 
+mod check;
 mod linking;
 mod loaded;
 mod replay;
 
-pub use loaded::{Loaded, load};
+pub use check::{Check, check_files};
+pub use loaded::{Loaded, load, load_texts};
 pub use replay::{Replay, replay_files};

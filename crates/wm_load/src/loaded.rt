@@ -40,7 +40,10 @@ fn weighed(spec: Spec, weights: Weights, program: Program) -> Result<Loaded, Run
 }
 
 /// What was read, with the program of the sources.
-fn from_texts(alloc: Global, texts: Texts) -> Result<Loaded, RunFault>
+///
+/// The first fault of the sources, then `MissingWeight` for the first word that the program uses and that has no weight. `Memory`:
+/// memory ran out.
+pub fn load_texts(alloc: Global, texts: Texts) -> Result<Loaded, RunFault>
     requires short { All IsText texts.sources.items }
     ensures { Finds loaded_of result (loaded_from (given_of texts)) }
 {
@@ -60,7 +63,7 @@ pub fn load<F: Files>(alloc: Global, name: &[u8], files: &mut F) -> Result<Loade
     ensures count { F.faults files.old ≤ F.faults files.new }
 {
     match read_texts(alloc, name, files) {
-        Ok(texts) => from_texts(alloc, texts),
+        Ok(texts) => load_texts(alloc, texts),
         Err(fault) => Err(fault),
     }
 }

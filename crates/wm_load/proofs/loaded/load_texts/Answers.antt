@@ -1,7 +1,7 @@
 use Rattle.std.proofs.Common.{ap}
 use Rattle.wm_read.specs.Seen.{texts_of}
 use Rattle.wm_load.proofs.ProgramRead.{with_program, without_program}
-use Rattle.wm_load.proofs.loaded.from_texts.Goals as goal
+use Rattle.wm_load.proofs.loaded.load_texts.Goals as goal
 
 pub returns-in-Ok : goal.returns-in-Ok
 returns-in-Ok c =

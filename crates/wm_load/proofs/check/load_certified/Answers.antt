@@ -1,0 +1,13 @@
+use Rattle.wm_read.specs.Given.{given_of}
+use Rattle.wm_load.proofs.CheckLoaded.{certified_on, certified_off}
+use Rattle.wm_load.proofs.check.load_certified.Goals as goal
+
+pub returns-in-Ok-clause-given : goal.returns-in-Ok-clause-given
+returns-in-Ok-clause-given g c =
+    certified_on (g.F.Files.held c.args.files.now) (g.F.Files.faults c.args.files.now) (g.F.Files.faults c.read_check_texts.new.files)
+    c.args.name.now (given_of c.in-Ok.texts) c.load_texts.result c.read_check_texts.ensures.count c.in-Ok.ensures.given c.load_texts.ensures
+
+pub returns-in-Err-clause-given : goal.returns-in-Err-clause-given
+returns-in-Err-clause-given g c =
+    certified_off (g.F.Files.held c.args.files.now) (g.F.Files.faults c.args.files.now) (g.F.Files.faults c.read_check_texts.new.files)
+    c.args.name.now c.in-Err.fault c.in-Err.ensures.given
