@@ -1,6 +1,7 @@
 // The states of heads.
-ghost use Rattle.std.specs.Prelude.{◌≡◌, ◌≤◌, All, IfOk, length, slice_index_or, slice_get, Some};
+ghost use Rattle.std.specs.Prelude.{◌≡◌, All, IfOk, slice_index_or, Some};
 ghost use Rattle.wm_domain.specs.States.{IsShape};
+ghost use Rattle.wm_cert_states.specs.Shapes.{HaveShapes, shape_at};
 
 use std::alloc::Global;
 use wm_cert_text::Head as Told;
@@ -29,7 +30,7 @@ fn head_state<D: Domain>(
     number: usize,
 ) -> Result<D, NoMemory>
     requires shapes { All IsShape graph.now.shapes }
-    ensures shape { IfOk result (λ state. slice_get graph.now.shapes (slice_index_or graph.now.node_shape head.node 0) ≡ Some (D.shape_of state)) }
+    ensures shape { IfOk result (λ state. shape_at graph.now head.node ≡ Some (D.shape_of state)) }
 {
     let shape = shape_number(graph.node_shape.items(), head.node);
     match graph.shapes.items().get(shape as usize) {
@@ -48,10 +49,13 @@ pub fn head_states<D: Domain>(
     told: &[Told],
 ) -> Result<List<D>, NoMemory>
     requires shapes { All IsShape graph.now.shapes }
+    ensures states { IfOk result (λ states. HaveShapes D.shape_of graph.now states) }
 {
     let mut states = List::new(alloc);
-    for (number, head) in graph.heads.items().iter().enumerate() {
+    let mut number = 0;
+    for head in graph.heads.items() {
         states.push(head_state(alloc, graph, *head, told, number)?)?;
+        number += 1;
     }
     Ok(states)
 }

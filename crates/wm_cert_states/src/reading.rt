@@ -1,9 +1,10 @@
 // A certificate of its text.
-ghost use Rattle.std.specs.Prelude.{◌≡◌, true, All, Ok};
+ghost use Rattle.std.specs.Prelude.{◌≡◌, true, All, IfOk, Ok};
 ghost use Rattle.std.specs.Result.{MatchResult};
 ghost use Rattle.wm_cert_heads.specs.Matching.{has_heads};
 ghost use Rattle.wm_domain.specs.States.{IsShape};
 ghost use Rattle.wm_cert_states.specs.Answers.{heads_in, Refuses, Accepts};
+ghost use Rattle.wm_cert_states.specs.Shapes.{HaveShapes};
 
 use crate::heads::head_states;
 use std::alloc::Global;
@@ -47,6 +48,7 @@ pub fn read_text<D: Domain>(
 ) -> Result<Certificate<D>, CertFault>
     requires shapes { All IsShape graph.now.shapes }
     ensures answer { MatchResult result (λ certificate. Accepts D.PAIRS graph.now bytes.now) (Refuses D.PAIRS graph.now bytes.now) }
+    ensures states { IfOk result (λ certificate. HaveShapes D.shape_of graph.now certificate.heads) }
 {
     let told = told_heads(alloc, D::PAIRS, bytes, graph)?;
     let heads = head_states(alloc, graph, told.items())?;

@@ -1,0 +1,9 @@
+use Rattle.std.proofs.Common.{◌≡◌, ◌++◌, drop}
+use Rattle.wm_cert_states.specs.Shapes.{head_shapes, state_shapes}
+use Rattle.wm_cert_states.proofs.heads.head_states.Given as goal
+
+abbrev pub invariant-loop-head : goal.invariant-loop-head
+invariant-loop-head g l = record {
+  at : l.number ≡ l.head-index;
+  left : state_shapes g.D.Domain.shape_of l.states ++ head_shapes l.graph (drop l.head-index l.graph.heads) ≡ head_shapes l.graph l.graph.heads;
+}
