@@ -1,0 +1,4 @@
+pub mod Intervals
+pub mod Paired
+pub mod Rising
+pub mod Drawing
