@@ -1,5 +1,6 @@
 // Intervals of differences.
-ghost use Rattle.std.specs.Prelude.{◌≡◌, ◌<◌, ◌∷◌, [], MatchOption};
+ghost use Rattle.std.specs.Prelude.{◌≡◌, ◌<◌, ◌<ℤ◌, ◌∷◌, [], negsuc, MatchOption};
+ghost use Rattle.wm_interval.specs.declared.Interval as intervals;
 ghost use Rattle.wm_hull.specs.Boxes.{BoxesFit, used_box, zero_box};
 ghost use Rattle.wm_step.specs.Operating.{IsTurned, IsChange, IsAdded, IsProduct, box_at};
 ghost use Rattle.wm_differing.specs.Differing.{IsToldBy, FactorsFit, Joins, told};
@@ -10,7 +11,7 @@ use wm_ops::Op;
 
 // the numbers with the other sign, where they are taken away; None where they are too large
 fn turned(r: Interval, away: bool) -> Option<Interval>
-    ensures { MatchOption result (Unit {0}) (IsTurned away r) }
+    ensures { MatchOption result (r.low <ℤ negsuc 4294967295) (IsTurned away r) }
 {
     if !away {
         return Some(r);
@@ -32,7 +33,7 @@ fn box_of(boxes: &[Interval; 3], k: usize) -> Interval
 // the results of an operator of two arguments over the boxes of the second and the third argument
 fn product(op: Op, boxes: &[Interval; 3], away: bool) -> Option<Interval>
     requires fit { BoxesFit op (used_box op (box_at boxes.now 1 ∷ box_at boxes.now 2 ∷ zero_box ∷ []) 0) (used_box op (box_at boxes.now 1 ∷ box_at boxes.now 2 ∷ zero_box ∷ []) 1) (used_box op (box_at boxes.now 1 ∷ box_at boxes.now 2 ∷ zero_box ∷ []) 2) }
-    ensures { MatchOption result (Unit {0}) (IsProduct op away boxes.now) }
+    ensures { MatchOption result ((d : intervals.Interval) → IsProduct op away boxes.now d → ⊥) (IsProduct op away boxes.now) }
 {
     let second = box_of(boxes, 1);
     let third = box_of(boxes, 2);
@@ -101,7 +102,7 @@ fn added_by(op: Op) -> Option<Summand>
 // the interval of what is added
 fn added(what: Summand, boxes: &[Interval; 3]) -> Option<Interval>
     requires fit { FactorsFit what boxes.now }
-    ensures { MatchOption result (Unit {0}) (IsAdded (told what) boxes.now) }
+    ensures { MatchOption result ((d : intervals.Interval) → IsAdded (told what) boxes.now d → ⊥) (IsAdded (told what) boxes.now) }
 {
     match what {
         Summand::Second { away } => turned(box_of(boxes, 1), away),
@@ -122,10 +123,10 @@ fn joined(op: Op, boxes: &[Interval; 3], d: Interval) -> Interval
 }
 
 /// The numbers by which the result of an operator over the boxes may differ from its first argument, 0 among them where it
-/// saturates somewhere in the boxes. There is an answer for the sums and differences with a first argument alone.
+/// saturates somewhere in the boxes. None exactly where the operator adds nothing to its first argument.
 pub fn change(op: Op, boxes: &[Interval; 3]) -> Option<Interval>
     requires fit { BoxesFit op (used_box op boxes.now 0) (used_box op boxes.now 1) (used_box op boxes.now 2) }
-    ensures exact { MatchOption result (Unit {0}) (IsChange op boxes.now) }
+    ensures exact { MatchOption result ((d : intervals.Interval) → IsChange op boxes.now d → ⊥) (IsChange op boxes.now) }
 {
     match added_by(op) {
         None => None,

@@ -1,0 +1,4 @@
+pub mod Adding
+pub mod Flagging
+pub mod Applying
+pub mod Deciding
