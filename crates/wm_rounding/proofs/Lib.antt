@@ -1,0 +1,4 @@
+pub mod Cutting
+pub mod Meeting
+pub mod Cells
+pub mod Closing

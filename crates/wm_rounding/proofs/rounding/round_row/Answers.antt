@@ -1,0 +1,10 @@
+use Rattle.std.proofs.Common.{◌∙◌}
+use Rattle.wm_rounding.specs.Rounding.{MeetsPair}
+use Rattle.wm_rounding.proofs.Cutting.{each_cut}
+use Rattle.wm_rounding.proofs.rounding.round_row.Goals as goal
+
+pub loop-v-preserved : goal.loop-v-preserved
+loop-v-preserved g c = record {
+  shape = c.in_ok-round_both.ensures.shape ∙ c.loop-v.invariant.shape;
+  cut = each_cut (g.D.Domain.holds c.args.state.now) (g.D.Domain.holds c.loop-v.state) (g.D.Domain.holds c.round_both.new.state) (λ u p. MeetsPair c.args.grid.now (g.D.Domain.holds c.args.held.now) u c.args.w p) c.loop-v.v c.loop-v.invariant.cut c.in_ok-round_both.ensures.cut;
+}

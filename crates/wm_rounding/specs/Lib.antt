@@ -1,0 +1,4 @@
+pub mod Forms
+pub mod Bounding
+pub mod Rounding
+pub mod Cuts
