@@ -1,7 +1,10 @@
 // The states of heads.
-ghost use Rattle.std.specs.Prelude.{◌≡◌, All, IfOk, slice_index_or, Some};
+ghost use Rattle.std.specs.Prelude.{◌≡◌, All, IfOk, slice_get, slice_index_or, Some};
 ghost use Rattle.wm_domain.specs.States.{IsShape};
+ghost use Rattle.wm_cert_text.specs.declared.told.Head as texts;
+ghost use Rattle.wm_state_of.specs.Meeting.{IsStateOf};
 ghost use Rattle.wm_cert_states.specs.Shapes.{HaveShapes, shape_at};
+ghost use Rattle.wm_cert_states.specs.Told.{AreTold};
 
 use std::alloc::Global;
 use wm_cert_text::Head as Told;
@@ -31,6 +34,7 @@ fn head_state<D: Domain>(
 ) -> Result<D, NoMemory>
     requires shapes { All IsShape graph.now.shapes }
     ensures shape { IfOk result (λ state. shape_at graph.now head.node ≡ Some (D.shape_of state)) }
+    ensures told { IfOk result (λ state. (it : texts.Head) → slice_get told.now number ≡ Some it → IsStateOf (D.shape_of state) it.state (D.holds state)) }
 {
     let shape = shape_number(graph.node_shape.items(), head.node);
     match graph.shapes.items().get(shape as usize) {
@@ -43,6 +47,7 @@ fn head_state<D: Domain>(
 }
 
 /// The states that the heads of a graph are told to have.
+#[tactic(auto, using(crate::proofs::Pushed::told_pushed))]
 pub fn head_states<D: Domain>(
     alloc: Global,
     graph: &Graph,
@@ -50,6 +55,7 @@ pub fn head_states<D: Domain>(
 ) -> Result<List<D>, NoMemory>
     requires shapes { All IsShape graph.now.shapes }
     ensures states { IfOk result (λ states. HaveShapes D.shape_of graph.now states) }
+    ensures told { IfOk result (λ states. AreTold D.shape_of D.holds told.now states) }
 {
     let mut states = List::new(alloc);
     let mut number = 0;

@@ -5,6 +5,7 @@ ghost use Rattle.wm_cert_heads.specs.Matching.{has_heads};
 ghost use Rattle.wm_domain.specs.States.{IsShape};
 ghost use Rattle.wm_cert_states.specs.Answers.{heads_in, Refuses, Accepts};
 ghost use Rattle.wm_cert_states.specs.Shapes.{HaveShapes};
+ghost use Rattle.wm_cert_states.specs.Told.{AreOfText};
 
 use crate::heads::head_states;
 use std::alloc::Global;
@@ -37,7 +38,7 @@ fn told_heads(
     }
 }
 
-/// The certificate of a text: each head has the state that its lines bound. The shapes of the graph have full ranges of 32 bits.
+/// The certificate of a text: each head has the state that holds exactly the points that its lines allow. The shapes of the graph have full ranges of 32 bits.
 ///
 /// BadText exactly where the bytes are no text for this domain, with the first line through which they begin none; WrongHeads
 /// exactly where they are one, but not of this graph's heads.
@@ -49,6 +50,7 @@ pub fn read_text<D: Domain>(
     requires shapes { All IsShape graph.now.shapes }
     ensures answer { MatchResult result (λ certificate. Accepts D.PAIRS graph.now bytes.now) (Refuses D.PAIRS graph.now bytes.now) }
     ensures states { IfOk result (λ certificate. HaveShapes D.shape_of graph.now certificate.heads) }
+    ensures told { IfOk result (λ certificate. AreOfText D.shape_of D.holds D.PAIRS bytes.now certificate.heads) }
 {
     let told = told_heads(alloc, D::PAIRS, bytes, graph)?;
     let heads = head_states(alloc, graph, told.items())?;
