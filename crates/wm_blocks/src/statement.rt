@@ -150,7 +150,8 @@ impl<F: Fn(Global, &mut Tokens<'_>, usize) -> Result<Statement, ParseFault>> Nes
         requires { Holds self.now.depth (F.pre self.now.statement) (F.post self.now.statement) }
         ensures { Reads (spec.items self.now.depth (spec.inner self.now.depth) (input_of tokens.old)) result (input_of tokens.new) }
     {
-        let mut found = Items::new(self.alloc);
+        // Blocks inside one another mostly hold one item each.
+        let mut found = Items::from_vec(Vec::with_capacity(self.alloc, 1)?);
         for _turn in 0..tokens.count() {
             if tokens.sees(Punct::RightBrace) {
                 return Ok(found);

@@ -6,6 +6,7 @@ ghost use Rattle.wm_members.specs.Making.{Makes, Adds, more};
 use crate::fault::Kind;
 use crate::handed::{Passing, first_in, passing_of, views_of};
 use crate::naming::{copied_name, name_of_member};
+use crate::room::room_for;
 use crate::spot::{address_of, hand_on, member_spot, pointed_at};
 use crate::state::State;
 use sqlite_items::{Boxed, Items};
@@ -23,7 +24,7 @@ fn truths(
 ) -> Result<Items<Part<(), Expr>>, NoMemory>
     ensures made { Makes (more part_made [] (map part_seen rest.now) state.old) result state.new }
 {
-    let mut done = Items::new(alloc);
+    let mut done = room_for(alloc, rest.len())?;
     for part in rest.as_slice() {
         let operand = expression_of(&part.operand, state, alloc)?;
         done.push(Part {
@@ -43,7 +44,7 @@ fn equalities(
 ) -> Result<Items<Part<EqualityMark, Expr>>, NoMemory>
     ensures made { Makes (more part_made [] (map part_seen rest.now) state.old) result state.new }
 {
-    let mut done = Items::new(alloc);
+    let mut done = room_for(alloc, rest.len())?;
     for part in rest.as_slice() {
         let operand = expression_of(&part.operand, state, alloc)?;
         done.push(Part {
@@ -63,7 +64,7 @@ fn relations(
 ) -> Result<Items<Part<RelationMark, Expr>>, NoMemory>
     ensures made { Makes (more part_made [] (map part_seen rest.now) state.old) result state.new }
 {
-    let mut done = Items::new(alloc);
+    let mut done = room_for(alloc, rest.len())?;
     for part in rest.as_slice() {
         let operand = expression_of(&part.operand, state, alloc)?;
         done.push(Part {
@@ -83,7 +84,7 @@ fn sums(
 ) -> Result<Items<Part<SumMark, Expr>>, NoMemory>
     ensures made { Makes (more part_made [] (map part_seen rest.now) state.old) result state.new }
 {
-    let mut done = Items::new(alloc);
+    let mut done = room_for(alloc, rest.len())?;
     for part in rest.as_slice() {
         let operand = expression_of(&part.operand, state, alloc)?;
         done.push(Part {
@@ -103,7 +104,7 @@ fn products(
 ) -> Result<Items<Part<ProductMark, Expr>>, NoMemory>
     ensures made { Makes (more part_made [] (map part_seen rest.now) state.old) result state.new }
 {
-    let mut done = Items::new(alloc);
+    let mut done = room_for(alloc, rest.len())?;
     for part in rest.as_slice() {
         let operand = expression_of(&part.operand, state, alloc)?;
         done.push(Part {
@@ -224,7 +225,7 @@ fn arguments_of(
 ) -> Result<Items<Expr>, NoMemory>
     ensures made { Makes (arguments_made function 0 [] (map seen arguments.now) state.old) result state.new }
 {
-    let mut done = Items::new(alloc);
+    let mut done = room_for(alloc, arguments.len())?;
     for (place, argument) in arguments.as_slice().iter().enumerate() {
         let passing = passing_of(argument, state.slot(function, place), state);
         argument_of(argument, passing, &mut done, state, alloc)?;

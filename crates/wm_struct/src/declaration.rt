@@ -11,7 +11,7 @@ use std::alloc::Global;
 use wm_lang::{
     Declaration, Declarator, Expr, Identifier, Initializer, InitializerList, Position, Words,
 };
-use wm_members::{Meaning, State, copied_name, expression_of};
+use wm_members::{Meaning, State, copied_name, expression_of, room_for};
 use wm_ops::NoMemory;
 
 /// The name and the list of an array.
@@ -47,7 +47,7 @@ fn values_of(
 ) -> Result<Items<Expr>, NoMemory>
     ensures made { Makes (more expanded [] values.now state.old) result state.new }
 {
-    let mut done = Items::new(alloc);
+    let mut done = room_for(alloc, values.len())?;
     for value in values.as_slice() {
         done.push(expression_of(value, state, alloc)?)?;
     }
@@ -203,7 +203,7 @@ fn declarators_of<'u>(
 ) -> Result<Items<Declarator>, NoMemory>
     ensures made { Makes (behind (spec.declarator_behind is_local words) [] declarators.now state.old) result state.new }
 {
-    let mut done = Items::new(alloc);
+    let mut done = room_for(alloc, declarators.len())?;
     for declarator in declarators.as_slice() {
         add_declarator(is_local, words, declarator, &mut done, state, alloc)?;
     }

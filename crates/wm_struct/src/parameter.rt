@@ -8,7 +8,7 @@ use crate::simple::maybe_of;
 use sqlite_items::Items;
 use std::alloc::Global;
 use wm_lang::{BaseType, Identifier, Parameter, ParameterKind, Position};
-use wm_members::{Meaning, Member, State, copied_name, name_of_member};
+use wm_members::{Meaning, Member, State, copied_name, name_of_member, room_for};
 use wm_ops::NoMemory;
 
 /// A scalar is `*m`, an array is `m[]`.
@@ -192,7 +192,7 @@ pub fn parameters_of<'u>(
 ) -> Result<Items<Parameter>, NoMemory>
     ensures made { Makes (behind spec.parameter_behind [] parameters.now state.old) result state.new }
 {
-    let mut done = Items::new(alloc);
+    let mut done = room_for(alloc, parameters.len())?;
     for parameter in parameters.as_slice() {
         add_parameter(parameter, &mut done, state, alloc)?;
     }

@@ -7,7 +7,7 @@ ghost use Rattle.wm_struct.specs.Statements.{simple_made};
 use sqlite_items::Items;
 use std::alloc::Global;
 use wm_lang::{Expr, Simple};
-use wm_members::{State, call_of, expression_of, spot_of};
+use wm_members::{State, call_of, expression_of, room_for, spot_of};
 use wm_ops::NoMemory;
 
 /// An expression that may be absent.
@@ -72,7 +72,7 @@ pub fn simples_of(
 ) -> Result<Items<Simple>, NoMemory>
     ensures made { Makes (more simple_made [] simples.now state.old) result state.new }
 {
-    let mut done = Items::new(alloc);
+    let mut done = room_for(alloc, simples.len())?;
     for simple in simples.as_slice() {
         done.push(simple_of(simple, state, alloc)?)?;
     }

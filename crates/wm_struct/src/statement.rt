@@ -8,7 +8,7 @@ use crate::simple::{maybe_of, simple_of, simples_of};
 use sqlite_items::{Boxed, Items};
 use std::alloc::Global;
 use wm_lang::{Block, BlockItem, Expr, Otherwise, Simple, Statement};
-use wm_members::{State, expression_of};
+use wm_members::{State, expression_of, room_for};
 use wm_ops::NoMemory;
 
 /// What stands in the parentheses of a for loop.
@@ -47,7 +47,7 @@ pub fn items_of<'u>(
 ) -> Result<Items<BlockItem<Statement>>, NoMemory>
     ensures made { Makes (items_expanded items.now state.old) result state.new }
 {
-    let mut done = Items::new(alloc);
+    let mut done = room_for(alloc, items.len())?;
     for item in items.as_slice() {
         match item {
             BlockItem::Declaration(declaration) => {
