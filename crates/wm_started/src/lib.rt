@@ -1,0 +1,8 @@
+//! The state with which a run starts.
+#![tactic(auto)]
+
+mod objects;
+mod places;
+mod starting;
+
+pub use starting::first;
