@@ -1,15 +1,15 @@
 -- Shapes of variables of 32 bits.
-use Rattle.std.proofs.Common.{◌≡◌, ◌⊎◌, inl, inr, ℕ, zero, suc, ◌+◌, ◌-◌, ◌<◌, ◌≤◌, ℤ, pos, negsuc, ◌≤ℤ◌, List, [], ◌∷◌, ◌++◌, length, length-append, All, refl, sym, ◌∙◌, ap, subst, arith}
+use Rattle.std.proofs.Common.{◌≡◌, ◌⊎◌, inl, inr, ℕ, zero, suc, ◌+◌, ◌-◌, ◌<◌, ◌≤◌, List, [], ◌∷◌, ◌++◌, length, length-append, All, refl, sym, ◌∙◌, ap, subst, arith}
 use Rattle.std.specs.Prelude.{Result, Ok, Err, OnOk, Option, Some, None, MatchOption}
 use Rattle.wm_middle.specs.declared.parts.Part.{Part}
+use Rattle.wm_middle.specs.declared.parts.Part.TheVariants.{Caller, Parameter}
 use Rattle.std.proofs.lemmas.Int.{ints}
 use Rattle.std.proofs.lemmas.List.{get_or_append_left, get_or-append_right}
-use Rattle.wm_numbers.specs.Within.{Within, IsWord32}
 use Rattle.wm_interval.specs.declared.Interval.{Interval}
 use Rattle.wm_domain.specs.declared.shape.Shape.{Shape}
 use Rattle.wm_domain.specs.Points.{range_at, nought, IsNarrow}
-use Rattle.wm_domain.specs.States.{variables_of, count_of, IsShape}
-use Rattle.wm_middle.specs.Parting.{AreWords, IsMiddle, AreParts}
+use Rattle.wm_domain.specs.States.{IsShape}
+use Rattle.wm_middle.specs.Parting.{AreWords, IsMiddle, AreParts, IsFound, IsFoundAmong, IsApart, part_at}
 
 pub on_ok_map : {A E : Type 0} (r : Result A E) (P Q : Type 0) → (P → Q) → OnOk r P → OnOk r Q
 on_ok_map (Ok x) P Q f h = f h
@@ -58,9 +58,52 @@ middle_shape target group singles arrays n count s eg es few inside ea wg ws =
 
 -- ---- parts
 
+end_part : (parts : List Part) (part : Part) (k : ℕ) → k ≡ length parts → part_at (parts ++ part ∷ []) k ≡ part
+end_part [] part k e = subst (λ (x : ℕ). part_at (part ∷ []) x ≡ part) (sym e) refl
+end_part (x ∷ parts) part zero e = absurd (omega (arith, e))
+end_part (x ∷ parts) part (suc k) e = end_part parts part k (omega (arith, e))
+
+push_apart : (parts : List Part) (part other : Part) (count : ℕ) → (part ≡ other → ⊥) → IsApart count parts other → (k : ℕ) → count ≤ k → k < length (parts ++ part ∷ []) → part_at (parts ++ part ∷ []) k ≡ other → ⊥
+push_apart parts part other count d h k l m e = elim (side k (length parts)) [
+  | inl a ↦ h k l a (sym (get_or_append_left parts (part ∷ []) (Caller 0) k a) ∙ e)
+  | inr b ↦ d (sym (end_part parts part k (omega (arith, b, m, length-append parts (part ∷ [])))) ∙ e)
+]
+
+pub still_apart : (parts more : List Part) (part other : Part) (count : ℕ) → more ≡ parts ++ part ∷ [] → (part ≡ other → ⊥) → IsApart count parts other → IsApart count more other
+still_apart parts more part other count e d h = subst (λ (xs : List Part). IsApart count xs other) (sym e) (push_apart parts part other count d h)
+
+pub found_all : (parts : List Part) (part : Part) (o : Option ℕ) → IsFoundAmong (length parts) parts part o → IsFound parts part o
+found_all parts part None h = h
+found_all parts part (Some k) h = h
+
+-- what is none of the first so many parts, and none of those behind, is none of all
+pub found_none : (count : ℕ) (parts : List Part) (part : Part) → IsFoundAmong count parts part None → IsApart count parts part → IsFound parts part None
+found_none count parts part f h = λ k l. elim (side k count) [
+  | inl a ↦ f k a
+  | inr b ↦ h k b l
+]
+
+-- behind all parts there is none
+pub none_behind : (count : ℕ) (parts : List Part) (part : Part) → count ≡ length parts → IsApart count parts part
+none_behind count parts part e = λ k h l. absurd (omega (arith, e, h, l))
+
 pub match_below : (n : ℕ) (o : Option ℕ) → ((v : ℕ) → o ≡ Some v → v < n) → MatchOption o (Unit {0}) (λ v. v < n)
 match_below n None h = tt
 match_below n (Some v) h = h v refl
+
+pub match_both : (n : ℕ) (o : Option ℕ) (P : ℕ → Type 0) → ((v : ℕ) → o ≡ Some v → v < n) → ((v : ℕ) → o ≡ Some v → P v) → MatchOption o (Unit {0}) (λ v. (v < n) × P v)
+match_both n None P h k = tt
+match_both n (Some v) P h k = (h v refl, k v refl)
+
+pub later : (k i : ℕ) → k + 1 ≤ i → k ≡ i → ⊥
+later k i h e = omega (arith, h, e)
+
+abbrev caller_or : Part → ℕ → ℕ
+caller_or (Caller v) d = v
+caller_or (Parameter v) d = d
+
+pub caller_same : (v w : ℕ) → Caller v ≡ Caller w → v ≡ w
+caller_same v w e = ap (λ (x : Part). caller_or x 0) e
 
 pub no_parts : (n m most : ℕ) (parts : List Part) → parts ≡ [] → AreParts n m most parts
 no_parts n m most parts e = subst (AreParts n m most) (sym e) (record {

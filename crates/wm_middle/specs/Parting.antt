@@ -1,5 +1,5 @@
 -- The variables of the shape between a call's node and the first node of the callee, and their points.
-use Rattle.std.specs.Prelude.{ℕ, ◌≡◌, ◌<◌, ◌≤◌, ◌^◌, ℤ, negsuc, pos, List, length, Option, Some, None, slice_index_or}
+use Rattle.std.specs.Prelude.{ℕ, ◌≡◌, ◌<◌, ◌≤◌, ℤ, negsuc, pos, List, length, Option, Some, None, slice_index_or}
 use Rattle.wm_interval.specs.declared.Interval.{Interval}
 use Rattle.wm_domain.specs.Points.{Point, range_at}
 use Rattle.wm_domain.specs.Forms.{IsForm}
@@ -37,6 +37,15 @@ pub record AreParts (n m most : ℕ) (parts : List Part) : Type 0 where
 abbrev pub IsFound : List Part → Part → Option ℕ → Type 0
 IsFound parts part None = (k : ℕ) → k < length parts → part_at parts k ≡ part → ⊥
 IsFound parts part (Some k) = (k < length parts) × (part_at parts k ≡ part)
+
+-- the answer is the place of the part among so many first ones; none where it is none of these
+abbrev pub IsFoundAmong : ℕ → List Part → Part → Option ℕ → Type 0
+IsFoundAmong count parts part None = (k : ℕ) → k < count → part_at parts k ≡ part → ⊥
+IsFoundAmong count parts part (Some k) = (k < length parts) × (part_at parts k ≡ part)
+
+-- none of the parts behind the first so many is this one
+abbrev pub IsApart : ℕ → List Part → Part → Type 0
+IsApart count parts part = (k : ℕ) → count ≤ k → k < length parts → part_at parts k ≡ part → ⊥
 
 -- ---- arguments
 

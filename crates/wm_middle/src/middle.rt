@@ -1,10 +1,11 @@
 // The variables between.
-ghost use Rattle.std.specs.Prelude.{◌≡◌, ◌<◌, ◌≤◌, ◌^◌, ℕ, All, length, IfOk, OnOk, MatchOption};
+ghost use Rattle.std.specs.Prelude.{◌≡◌, ◌<◌, ◌≤◌, ◌^◌, ℕ, Some, None, slice_index_or, All, length, IfOk, OnOk, MatchOption};
 ghost use Rattle.wm_domain.specs.Changes.{ArePicks};
 ghost use Rattle.wm_domain.specs.Forms.{IsForm};
-ghost use Rattle.wm_middle.specs.Parting.{AreParts, IsArgument};
+ghost use Rattle.wm_middle.specs.Parting.{AreParts, IsApart, IsArgument};
+ghost use Rattle.wm_middle.specs.declared.parts.Part.TheVariants.{Caller};
 
-use crate::parts::{Part, add};
+use crate::parts::{Part, add, add_single};
 use std::alloc::Global;
 use wm_domain::Form;
 use wm_flow::Argument;
@@ -75,6 +76,45 @@ fn add_picked(
 {
     for k in first..end {
         add_pick(parts, picks[k], most)?;
+    }
+    Ok(())
+}
+
+// a variable of the caller, where there is one and none of the first so many parts is it
+fn add_single_pick(
+    parts: &mut Vec<Part>,
+    pick: Option<u32>,
+    count: usize,
+    most: u32,
+) -> Result<(), NoMemory>
+    requires few { length parts.old.items ≤ most }
+    requires inside { count ≤ length parts.old.items }
+    ensures more { OnOk result (length parts.old.items ≤ length parts.new.items) }
+    ensures few { OnOk result (length parts.new.items ≤ most) }
+    ensures apart { OnOk result ((w : ℕ) → (pick ≡ Some w → ⊥) → IsApart count parts.old.items (Caller w) → IsApart count parts.new.items (Caller w)) }
+    ensures good { OnOk result ((n m : ℕ) → MatchOption pick (Unit {0}) (λ v. (v < n) × IsApart count parts.old.items (Caller v)) → AreParts n m most parts.old.items → AreParts n m most parts.new.items) }
+{
+    match pick {
+        None => Ok(()),
+        Some(v) => add_single(parts, Part::Caller(v), count, most),
+    }
+}
+
+// the variables that the places from one on come from, where they are not in the group: as each is picked once, none of the
+// singles before is it
+fn add_singles(
+    parts: &mut Vec<Part>,
+    picks: &[Option<u32>],
+    first: usize,
+    most: u32,
+) -> Result<(), NoMemory>
+    requires few { length parts.old.items ≤ most }
+    ensures more { OnOk result (length parts.old.items ≤ length parts.new.items) }
+    ensures good { OnOk result ((n m : ℕ) → ArePicks n picks.now → AreParts n m most parts.old.items → AreParts n m most parts.new.items) }
+{
+    let count = parts.len();
+    for k in first..picks.len() {
+        add_single_pick(parts, picks[k], count, most)?;
     }
     Ok(())
 }
@@ -159,8 +199,7 @@ pub fn middle_of(alloc: Global, call: &Call, group: usize) -> Result<Middle, NoM
 {
     let mut parts = related(alloc, call, group)?;
     let count = parts.len();
-    let end = call.picks.len();
-    add_picked(&mut parts, call.picks, group.min(end), end, u32::MAX)?;
+    add_singles(&mut parts, call.picks, group, u32::MAX)?;
     Ok(Middle {
         parts,
         group: count,

@@ -5,7 +5,7 @@ ghost use Rattle.wm_domain.specs.States.{IsShape};
 ghost use Rattle.wm_middle.specs.Parting.{AreWords, IsMiddle, IsBack};
 
 use crate::middle::Middle;
-use crate::parts::{Part, find};
+use crate::parts::{Part, find_among, find_next};
 use std::alloc::Global;
 use wm_domain::Shape;
 use wm_interval::Interval;
@@ -58,25 +58,33 @@ pub fn shape_of(alloc: Global, target: &Shape, middle: &Middle) -> Result<Shape,
     })
 }
 
-// the place of the caller's variable that is picked
-fn picked_place(parts: &[Part], v: u32, pick: Option<u32>) -> Option<u32>
+// the place of the caller's variable that is picked, which is `next` as a rule
+fn picked_place(parts: &[Part], v: u32, pick: Option<u32>, next: usize) -> Option<u32>
     requires few { length parts.now < 2 ^ 32 }
     ensures { IsBack parts.now v pick result }
 {
     match pick {
         None => None,
-        Some(w) => find(parts, Part::Caller(w)),
+        Some(w) => find_next(parts, w, next),
     }
 }
 
-// the place from which a variable of the callee comes
-fn back_of(parts: &[Part], v: u32, pick: Option<u32>) -> Option<u32>
+// the place from which a variable of the callee comes; parameters stand in the group, among the first 32
+fn back_of(parts: &[Part], v: u32, pick: Option<u32>, next: usize) -> Option<u32>
     requires few { length parts.now < 2 ^ 32 }
     ensures { IsBack parts.now v pick result }
 {
-    match find(parts, Part::Parameter(v)) {
+    match find_among(parts, parts.len().min(32), Part::Parameter(v)) {
         Some(place) => Some(place),
-        None => picked_place(parts, v, pick),
+        None => picked_place(parts, v, pick, next),
+    }
+}
+
+// the place behind all that were found
+fn behind(place: Option<u32>, next: usize) -> usize {
+    match place {
+        None => next,
+        Some(k) => next.max(k as usize + 1),
     }
 }
 
@@ -92,8 +100,11 @@ pub fn backs(
     ensures each { IfOk result (λ places. (v : ℕ) → v < length picks.now → IsBack parts.now v (slice_index_or picks.now v None) (slice_index_or places.items v None)) }
 {
     let mut places = vec![in alloc; None; picks.len()]?;
+    let mut next = 0;
     for v in 0..picks.len() {
-        places[v] = back_of(parts, v as u32, picks[v]);
+        let place = back_of(parts, v as u32, picks[v], next);
+        places[v] = place;
+        next = behind(place, next);
     }
     Ok(places)
 }

@@ -1,4 +1,4 @@
-use Rattle.std.proofs.Common.{◌≡◌, ℕ, ◌≤◌, length, All}
+use Rattle.std.proofs.Common.{ℕ, ◌≤◌, length, All}
 use Rattle.wm_middle.specs.Parting.{AreParts, IsArgument}
 use Rattle.wm_middle.proofs.middle.add_all_followed.Given as goal
 

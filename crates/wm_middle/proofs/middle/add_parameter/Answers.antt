@@ -1,4 +1,4 @@
-use Rattle.std.proofs.Common.{◌≡◌, ◌<◌, ℕ}
+use Rattle.std.proofs.Common.{◌<◌, ℕ}
 use Rattle.wm_middle.specs.Parting.{AreParts, IsArgument}
 use Rattle.wm_middle.proofs.Shaping.{on_ok_map}
 use Rattle.wm_middle.proofs.middle.add_parameter.Goals as goal

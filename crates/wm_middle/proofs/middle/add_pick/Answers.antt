@@ -1,4 +1,4 @@
-use Rattle.std.proofs.Common.{◌≡◌, ◌<◌, ℕ, Option, subst}
+use Rattle.std.proofs.Common.{◌<◌, ℕ, Option, subst}
 use Rattle.std.specs.Prelude.{MatchOption}
 use Rattle.wm_middle.specs.Parting.{AreParts}
 use Rattle.wm_middle.proofs.Shaping.{on_ok_map}

@@ -1,4 +1,4 @@
-use Rattle.std.proofs.Common.{◌≡◌, ◌≤◌, ℕ, length, None, arith}
+use Rattle.std.proofs.Common.{None, arith}
 use Rattle.std.specs.Prelude.{slice_index_or}
 use Rattle.wm_middle.proofs.Shaping.{match_below}
 use Rattle.wm_middle.proofs.middle.add_picked.Goals as goal

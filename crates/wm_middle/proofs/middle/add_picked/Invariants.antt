@@ -1,4 +1,4 @@
-use Rattle.std.proofs.Common.{◌≡◌, ℕ, ◌≤◌, length}
+use Rattle.std.proofs.Common.{ℕ, ◌≤◌, length}
 use Rattle.wm_domain.specs.Changes.{ArePicks}
 use Rattle.wm_middle.specs.Parting.{AreParts}
 use Rattle.wm_middle.proofs.middle.add_picked.Given as goal

@@ -1,5 +1,4 @@
-use Rattle.std.proofs.Common.{◌≡◌, List, [], rules}
-use Rattle.wm_middle.specs.declared.parts.Part.{Part}
+use Rattle.std.proofs.Common.{rules}
 use Rattle.wm_middle.proofs.Shaping.{no_parts}
 use Rattle.wm_middle.proofs.middle.related.Goals as goal
 

@@ -1,4 +1,4 @@
-use Rattle.std.proofs.Common.{◌≡◌, ◌<◌, ◌≤◌, ℕ, suc, length, List, None, subst, arith, rules}
+use Rattle.std.proofs.Common.{◌<◌, ℕ, length, List, None, subst, rules}
 use Rattle.wm_middle.specs.declared.parts.Part.{Part}
 use Rattle.wm_middle.specs.Parting.{IsFound, IsPartOf, AreParts}
 use Rattle.wm_middle.proofs.Shaping.{on_ok_map}
