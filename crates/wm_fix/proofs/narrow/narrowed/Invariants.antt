@@ -1,0 +1,7 @@
+use Rattle.wm_walk.specs.Graphs.{AreStates}
+use Rattle.wm_fix.proofs.narrow.narrowed.Given as goal
+
+abbrev pub invariant-loop-time : goal.invariant-loop-time
+invariant-loop-time g l = record {
+  states : AreStates g.D.Domain.shape_of l.graph l.states.items;
+}
