@@ -1,0 +1,4 @@
+pub mod Shaped
+mod Fitting
+mod UsedPlaces
+mod Choosing

@@ -1,0 +1,3 @@
+pub mod Proofs
+pub mod Refusals
+pub mod Worst
