@@ -1,4 +1,4 @@
--- The status of a refusal is none of a report; one that tells of the content of a file is 2 or 3.
+-- The status of a refusal is none of an answer; one that tells of the content of a file is 2, 3 or 4.
 use Rattle.std.proofs.Common.{◌≤◌, refl, arith}
 use Rattle.std.specs.Prelude.{◌≢◌}
 use Rattle.wm_report.specs.declared.fault.RunFault.{RunFault}
@@ -32,7 +32,7 @@ above_one (WriteFailed name) = omega arith
 above_one Memory = omega arith
 above_one Words = omega arith
 
-pub plain_low : (fault : RunFault) → IsPlain fault → fault ≢ Memory → status_of fault ≤ 3
+pub plain_low : (fault : RunFault) → IsPlain fault → fault ≢ Memory → status_of fault ≤ 4
 plain_low SourcesTooLong plain own = omega arith
 plain_low (Source fault at) plain own = omega arith
 plain_low (TooMany what at) plain own = omega arith
@@ -49,10 +49,10 @@ plain_low (BadNumber key) plain own = omega arith
 plain_low (MissingWeight word) plain own = omega arith
 plain_low (Rest bytes) plain own = omega arith
 plain_low (OutOfRange frame name cell value) plain own = omega arith
-plain_low CertificateTooLong plain own = absurd plain
-plain_low (BadText line) plain own = absurd plain
-plain_low WrongHeads plain own = absurd plain
-plain_low (NotInductive gap) plain own = absurd plain
+plain_low CertificateTooLong plain own = omega arith
+plain_low (BadText line) plain own = omega arith
+plain_low WrongHeads plain own = omega arith
+plain_low (NotInductive gap) plain own = omega arith
 plain_low (ReadFailed name) plain own = absurd plain
 plain_low (WriteFailed name) plain own = absurd plain
 plain_low Memory plain own = absurd (own refl)

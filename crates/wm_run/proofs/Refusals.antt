@@ -1,4 +1,4 @@
--- The refusals of a replay are fair.
+-- The refusals of the files of each command are fair.
 use Rattle.std.proofs.Common.{ℕ, ◌-◌, List, [], ◌∷◌, ◌++◌, length, Option, Some, None, Result, Ok, Err, refl}
 use Rattle.wm_lacking.specs.Lacking.{lacking}
 use Rattle.wm_lang.specs.declared.token.Token.{Token}
@@ -7,6 +7,7 @@ use Rattle.wm_lex.specs.declared.fault.LexFault.{LexFault}
 use Rattle.wm_lex.specs.declared.fault.LexFault.TheVariants as lexical
 use Rattle.wm_lex.specs.Lines.{tokens_of}
 use Rattle.wm_link.specs.Linked.{linked}
+use Rattle.wm_load.specs.Checking.{check_asked, check_behind, check_load_asked, with_bytes}
 use Rattle.wm_load.specs.Linking.{linked_in, program_of_tokens, program_of_texts}
 use Rattle.wm_load.specs.Loaded.{Loaded}
 use Rattle.wm_load.specs.Loading.{load_asked, load_behind, loaded_from, unless_lacking, weighed}
@@ -21,7 +22,9 @@ use Rattle.wm_program.specs.declared.faults.LinkFault.TheVariants as link
 use Rattle.wm_program.specs.declared.program.Program.{Program}
 use Rattle.wm_program.specs.declared.spec.Spec.{Spec}
 use Rattle.wm_program.specs.Settings.{Settings}
-use Rattle.wm_read.specs.Files.{Texts, spec_fault, specification_asked, weight_fault, weights_asked, source_asked, sources_behind, sources_asked, texts_behind, texts_with, texts_asked, sample_fault, samples_asked}
+use Rattle.wm_read.specs.Asking.{Bytes}
+use Rattle.wm_read.specs.Certificate.{certificate_asked, certified, certified_asked, certified_behind, certified_by, check_texts_asked}
+use Rattle.wm_read.specs.Files.{Texts, settings_from, spec_fault, specification_asked, weight_fault, weights_asked, source_asked, sources_behind, sources_asked, texts_behind, texts_with, texts_asked, sample_fault, samples_asked}
 use Rattle.wm_samples.specs.declared.fault.SampleFault.{SampleFault}
 use Rattle.wm_samples.specs.declared.fault.SampleFault.TheVariants as sample
 use Rattle.wm_samples.specs.Form.{forms_of}
@@ -35,6 +38,8 @@ use Rattle.wm_unit.specs.Trees.{struct_fault, syntax_fault, written_in, plain_in
 use Rattle.wm_weights.specs.declared.fault.WeightFault.{WeightFault}
 use Rattle.wm_weights.specs.declared.fault.WeightFault.TheVariants as weight
 use Rattle.wm_weights.specs.Given.{read_of as weights_of_bytes}
+use Rattle.wm_gen.specs.Example.{spec_text}
+use Rattle.wm_run.specs.Demo.{demo_name, example_behind, example_loaded, example_texts}
 use Rattle.wm_run.proofs.Fair.{IsPlain, Plain, Fair, fair_on, plain_by, plain_then}
 
 -- ---- the files
@@ -167,7 +172,7 @@ loaded_plain texts =
     plain_then (program_of_texts (spec_of texts.settings) texts.sources) (weighed texts.settings texts.weights)
     (of_texts_plain (spec_of texts.settings) texts.sources) (weighed_plain texts.settings texts.weights)
 
-load_fair : (name : List ℕ) → Fair (load_asked name)
+pub load_fair : (name : List ℕ) → Fair (load_asked name)
 unfolding load_asked
 load_fair name = fair_on (texts_asked name) load_behind (texts_fair name) loaded_plain
 
@@ -189,3 +194,46 @@ replay_behind_fair samples loaded = fair_on (samples_asked loaded.program sample
 pub replay_fair : (spec samples : List ℕ) → Fair (replay_asked spec samples)
 unfolding replay_asked
 replay_fair spec samples = fair_on (load_asked spec) (replay_behind samples) (load_fair spec) (replay_behind_fair samples)
+
+-- ---- the certificate
+
+certified_plain : (name : Option (List ℕ)) (settings : Settings) → Plain (certified_by name settings)
+certified_plain None settings = tt
+certified_plain (Some name) settings = tt
+
+settings_certified : (settings : Settings) → Fair (certified_behind settings)
+unfolding certified
+settings_certified settings = certified_plain settings.certificate settings
+
+certified_fair : (name : List ℕ) → Fair (certified_asked name)
+unfolding certified_asked
+certified_fair name = fair_on (specification_asked name) certified_behind (specification_fair name) settings_certified
+
+check_texts_fair : (name : List ℕ) → Fair (check_texts_asked name)
+unfolding check_texts_asked
+check_texts_fair name = fair_on (certified_asked name) texts_with (certified_fair name) with_fair
+
+check_load_fair : (name : List ℕ) → Fair (check_load_asked name)
+unfolding check_load_asked
+check_load_fair name = fair_on (check_texts_asked name) load_behind (check_texts_fair name) loaded_plain
+
+certificate_fair : (name : Option (List ℕ)) → Fair (certificate_asked name)
+unfolding certificate_asked
+certificate_fair None = tt
+certificate_fair (Some name) = (λ bytes. tt, tt, refl)
+
+check_behind_fair : (loaded : Loaded) → Fair (check_behind loaded)
+unfolding check_behind
+check_behind_fair loaded = fair_on (certificate_asked loaded.settings.certificate) (with_bytes loaded) (certificate_fair loaded.settings.certificate) (λ bytes. tt)
+
+pub check_fair : (name : List ℕ) → Fair (check_asked name)
+unfolding check_asked
+check_fair name = fair_on (check_load_asked name) check_behind (check_load_fair name) check_behind_fair
+
+-- ---- the example
+
+pub example_plain : (stages : ℕ) → Plain (example_loaded stages)
+unfolding example_loaded
+example_plain stages =
+    plain_then (settings_from demo_name (Bytes spec_text)) (example_behind stages) (plain_by (spec_fault demo_name) (spec_plain demo_name) (settings_of_bytes spec_text))
+    (λ settings. loaded_plain (example_texts stages settings))

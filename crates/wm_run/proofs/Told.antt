@@ -1,86 +1,82 @@
--- Files that tell what they hold, and do not fail, leave one decision.
-use Rattle.std.proofs.Common.{◌≡◌, ℕ, ◌<◌, List, length, Option, Some, None, ◌⊎◌, inl, inr, refl, sym, ap, subst, ◌∙◌}
-use Rattle.std.specs.Prelude.{MatchOption, IfSome, IsSomeAnd}
-use Rattle.std.specs.FinMap.{get}
-use Rattle.std.proofs.lemmas.Bool.{le-ltb, lt-ltb}
+-- Files that tell what they hold, and do not fail, leave one answer of theirs.
+use Rattle.std.proofs.Common.{◌≡◌, ◌⊎◌, inl, inr, ℕ, List, Option, Some, None, Result, Ok, refl, subst}
+use Rattle.std.specs.Prelude.{IfSome}
 use Rattle.wm_files.specs.Outside.{Held, Rose}
-use Rattle.wm_run.specs.Specification.{source_name}
+use Rattle.wm_load.specs.Checking.{check_asked}
+use Rattle.wm_load.specs.Loading.{load_asked}
+use Rattle.wm_load.specs.Replay.{Replay as Given}
 use Rattle.wm_load.specs.Replaying.{replay_asked}
-use Rattle.wm_read.specs.Asking.{told}
+use Rattle.wm_read.specs.Asking.{Asking, Leads, told}
 use Rattle.wm_read.proofs.Asked.{leads_told}
+use Rattle.wm_report.specs.declared.fault.RunFault.{RunFault}
 use Rattle.wm_words.specs.Words.{Form, Prove, Check, Replay, Demo, Worst, Headroom, Observe, BadWords, form_of}
-use Rattle.wm_run.specs.Decision.{Decided, SpecificationNotYet, Read, Bytes, TooLong, Failed, ReadGives, FromSource, AfterSpecification, FromSpecification, FromReplay, FromForm, LeadsTo, with_source, limit, told_read, read_in, told_source, told_specification, replay_decision, told_form, decision_of}
-use Rattle.wm_run.specs.Ends.{Call, Decides, Put, EndsAsTold}
+use Rattle.wm_run.specs.Outcome.{Decided, Told, IsOwn}
+use Rattle.wm_run.specs.World.{World}
+use Rattle.wm_run.specs.Proved.{CheckedAs, HeadroomAs, ProvedAs, WorstAs}
+use Rattle.wm_run.specs.Sampled.{ObservedAs, ReplayedAs}
+use Rattle.wm_run.specs.Replay.{whole_replay}
+use Rattle.wm_run.specs.Leads.{By, From, FromForm, Reading, ToldForm, ToldBy}
+use Rattle.wm_run.specs.Ends.{Call, ByMemory, Completes, Decides, EndsAsTold, EndsByTold, Put, ReplayCompletes}
 
-too_long : (held : Option (List ℕ)) → IsSomeAnd held (λ bytes. limit < length bytes) → TooLong ≡ told_read held
-too_long None above = absurd above
-too_long (Some bytes) above = rw (lt-ltb _ _ above) refl
+module _ (world : World) (pairs : Held) (same : world.before ≡ Some pairs) where
+  from_told : {A : Type 0} (As : A → Decided → Type 0) (asked : Asking (Result A RunFault)) (d : Decided) → From world As asked d → Rose world.old world.new ⊎ By world As (told pairs asked) d
+  from_told {A} As asked d from =
+      let here : Leads (Some pairs) world.old world.new asked from.answer = subst (λ (held : Option Held). Leads held world.old world.new asked from.answer) same from.leads in
+      elim (leads_told pairs world.old world.new asked from.answer here) [
+        | inl rose ↦ inl rose
+        | inr is ↦ inr (subst (λ (answer : Result A RunFault). By world As answer d) is from.by)
+      ]
 
-read_told : (pairs : Held) (old new : ℕ) (name : List ℕ) (read : Read) → ReadGives (Some pairs) old new name read → Rose old new ⊎ (read ≡ read_in pairs name)
-read_told pairs old new name (Bytes bytes) given =
-    let short : told_read (Some bytes) ≡ Bytes bytes = rw (le-ltb _ _ given.0) refl in
-    inr (rw given.1 (sym short))
-read_told pairs old new name TooLong given = inr (too_long (get pairs name) given)
-read_told pairs old new name Failed (inl rose) = inl rose
-read_told pairs old new name Failed (inr missing) = inr (rw missing refl)
+  form_told : (d : Decided) (form : Form) → FromForm world form d → Rose world.old world.new ⊎ ToldForm world pairs form d
+  form_told d (Prove name) from = from_told (ProvedAs world) (load_asked name) d from
+  form_told d (Check name) from = from_told (Reading world CheckedAs) (check_asked name) d from
+  form_told d (Replay spec samples) from = from_told (Reading world ReplayedAs) (replay_asked spec samples) d from
+  form_told d (Demo stages) from = inr from
+  form_told d (Worst name) from = from_told (Reading world WorstAs) (load_asked name) d from
+  form_told d (Headroom name) from = from_told (Reading world HeadroomAs) (load_asked name) d from
+  form_told d (Observe spec samples) from = from_told (Reading world ObservedAs) (replay_asked spec samples) d from
+  form_told d BadWords from = inr from
 
-source_told : (pairs : Held) (old new : ℕ) (d : Decided) (file : Option (List ℕ))
-    → MatchOption file (d ≡ SpecificationNotYet) (λ file. FromSource (Some pairs) old new file d) → Rose old new ⊎ (d ≡ told_source pairs file)
-source_told pairs old new d None from = inr from
-source_told pairs old new d (Some file) from =
-    elim (read_told pairs old new file from.0 from.1) [
-      | inl rose ↦ inl rose
-      | inr same ↦ inr (from.2 ∙ ap (with_source file) same)
-    ]
+module _ (call : Call) (status : ℕ) where
+  ends_held : (d : Decided) → Decides call d → IsOwn d → Put call d status → (held : Option Held) → call.files.before ≡ held → IfSome held (λ pairs. EndsByTold call pairs status)
+  ends_held d decides own put None same = tt
+  ends_held d decides own put (Some pairs) same =
+      elim (form_told call.files pairs same d (form_of call.words) decides) [
+        | inl rose ↦ inl rose
+        | inr is ↦ inr (inl (record { decision = d; decides = is; own = own; put = put }))
+      ]
 
-specification_told : (pairs : Held) (old new : ℕ) (name : List ℕ) (read : Read) (d : Decided)
-    → AfterSpecification (Some pairs) old new name read d → Rose old new ⊎ (d ≡ told_specification pairs name read)
-specification_told pairs old new name (Bytes specification) d after = source_told pairs old new d (source_name specification) after
-specification_told pairs old new name TooLong d after = inr after
-specification_told pairs old new name Failed d after = inr after
+  pub ends_as_told : (d : Decided) → Decides call d → IsOwn d → Put call d status → EndsAsTold call status
+  ends_as_told d decides own put = ends_held d decides own put call.files.before refl
 
-named_told : (pairs : Held) (old new : ℕ) (name : List ℕ) (d : Decided) → FromSpecification (Some pairs) old new name d
-    → Rose old new ⊎ (d ≡ told_specification pairs name (read_in pairs name))
-named_told pairs old new name d leads =
-    elim (read_told pairs old new name leads.0 leads.1) [
-      | inl rose ↦ inl rose
-      | inr same ↦
-          elim (specification_told pairs old new name leads.0 d leads.2) [
-            | inl rose ↦ inl rose
-            | inr is ↦ inr (is ∙ ap (told_specification pairs name) same)
-          ]
-    ]
+  memory_held : ByMemory call status → (held : Option Held) → IfSome held (λ pairs. EndsByTold call pairs status)
+  memory_held memory None = tt
+  memory_held memory (Some pairs) = inr (inr memory)
 
-replay_told : (pairs : Held) (old new : ℕ) (spec samples : List ℕ) (d : Decided) → FromReplay (Some pairs) old new spec samples d
-    → Rose old new ⊎ (d ≡ replay_decision (told pairs (replay_asked spec samples)))
-replay_told pairs old new spec samples d from =
-    elim (leads_told pairs old new (replay_asked spec samples) from.0 from.1) [
-      | inl rose ↦ inl rose
-      | inr is ↦ inr (from.2 ∙ ap replay_decision is)
-    ]
+  pub memory_as_told : ByMemory call status → EndsAsTold call status
+  memory_as_told memory = memory_held memory call.files.before
 
-form_told : (pairs : Held) (old new : ℕ) (d : Decided) (form : Form) → FromForm (Some pairs) old new form d → Rose old new ⊎ (d ≡ told_form pairs form)
-form_told pairs old new d (Prove name) leads = named_told pairs old new name d leads
-form_told pairs old new d (Replay spec samples) leads = replay_told pairs old new spec samples d leads
-form_told pairs old new d (Check name) leads = inr leads
-form_told pairs old new d (Demo stages) leads = inr leads
-form_told pairs old new d (Worst name) leads = inr leads
-form_told pairs old new d (Headroom name) leads = inr leads
-form_told pairs old new d (Observe spec samples) leads = inr leads
-form_told pairs old new d BadWords leads = inr leads
+  -- ---- a replay of valid files
 
-decided_told : (words : List (List ℕ)) (pairs : Held) (old new : ℕ) (d : Decided) → LeadsTo words (Some pairs) old new d → Rose old new ⊎ (d ≡ decision_of words pairs)
-unfolding decision_of
-decided_told words pairs old new d leads = form_told pairs old new d (form_of words) leads
+  replay_put : (given : Given) (answer : Result Given RunFault) (d : Decided) → answer ≡ Ok given → By call.files (Reading call.files ReplayedAs) answer d → Put call d status → Put call (Told (whole_replay given)) status
+  replay_put given answer d is by put =
+      let here : By call.files (Reading call.files ReplayedAs) (Ok given) d = subst (λ (r : Result Given RunFault). By call.files (Reading call.files ReplayedAs) r d) is by in
+      subst (λ (e : Decided). Put call e status) here.1 put
 
-ends_held : (call : Call) (held : Option Held) (d : Decided) (status : ℕ) → LeadsTo call.words held call.file_faults_before call.file_faults_after d → Put call d status
-    → IfSome held (λ pairs. Rose call.file_faults_before call.file_faults_after ⊎ Put call (decision_of call.words pairs) status)
-ends_held call None d status leads put = tt
-ends_held call (Some pairs) d status leads put =
-    elim (decided_told call.words pairs call.file_faults_before call.file_faults_after d leads) [
-      | inl rose ↦ inl rose
-      | inr is ↦ inr (subst (λ (e : Decided). Put call e status) is put)
-    ]
+  told_replay : (pairs : Held) (spec samples : List ℕ) (given : Given) (d : Decided) → form_of call.words ≡ Replay spec samples → told pairs (replay_asked spec samples) ≡ Ok given
+      → ToldBy call.words call.files pairs d → Put call d status → Put call (Told (whole_replay given)) status
+  told_replay pairs spec samples given d form is decides put =
+      replay_put given (told pairs (replay_asked spec samples)) d is (subst (λ (f : Form). ToldForm call.files pairs f d) form decides) put
 
-pub ends_as_told : (call : Call) (d : Decided) (status : ℕ) → Decides call d → Put call d status → EndsAsTold call status
-ends_as_told call d status decides put = ends_held call call.held d status decides put
+  completes_held : (pairs : Held) (spec samples : List ℕ) (given : Given) → form_of call.words ≡ Replay spec samples → EndsByTold call pairs status → told pairs (replay_asked spec samples) ≡ Ok given → Completes call status given
+  completes_held pairs spec samples given form (inl rose) is = record { ends = inl rose }
+  completes_held pairs spec samples given form (inr (inl by)) is = record { ends = inr (told_replay pairs spec samples given by.decision form is by.decides by.put) }
+  completes_held pairs spec samples given form (inr (inr memory)) is = record { ends = inr (inr (inr memory.memory)) }
+
+  completes_where : (held : Option Held) (spec samples : List ℕ) (given : Given) → form_of call.words ≡ Replay spec samples → IfSome held (λ pairs. EndsByTold call pairs status)
+      → IfSome held (λ pairs. told pairs (replay_asked spec samples) ≡ Ok given → Completes call status given)
+  completes_where None spec samples given form ends = tt
+  completes_where (Some pairs) spec samples given form ends = completes_held pairs spec samples given form ends
+
+  pub completes : EndsAsTold call status → ReplayCompletes call status
+  completes ends spec samples given form = completes_where call.files.before spec samples given form ends

@@ -1,50 +1,43 @@
--- How a call ends: what its status and the sink say, whatever the world outside does.
-use Rattle.std.specs.Prelude.{◌≡◌, ◌⊎◌, ℕ, List, take, codes, Option, Some, None, IfSome, IsSomeAnd, Ok, ⊤}
+-- How a call ends: what its status, the sink and the files say, whatever the world outside does.
+use Rattle.std.specs.Prelude.{◌≡◌, ◌⊎◌, ℕ, List, take, codes, Option, Some, None, IfSome, IsSomeAnd, Ok}
 use Rattle.std.specs.FinMap.{get}
-use Rattle.wm_files.specs.Outside.{Held, Rose, grown}
+use Rattle.wm_files.specs.Outside.{Held, Rose, grown, with_bytes, CutShort}
+use Rattle.wm_load.specs.Loaded.{Loaded}
+use Rattle.wm_load.specs.Loading.{load_asked}
 use Rattle.wm_load.specs.Replay.{Replay as Given}
 use Rattle.wm_load.specs.Replaying.{replay_asked}
 use Rattle.wm_read.specs.Asking.{Leads, told}
 use Rattle.wm_report.specs.declared.fault.RunFault.TheVariants as refusals
 use Rattle.wm_words.specs.Words.{Form, Prove, Check, Replay, Demo, Worst, Headroom, Observe, BadWords, form_of}
-use Rattle.wm_run.specs.PlainProgram.{Program}
-use Rattle.wm_run.specs.PlainMeaning.{all_ones}
-use Rattle.wm_run.specs.PlainAnalysis.{findings}
-use Rattle.wm_run.specs.PlainSound.{Sound}
-use Rattle.wm_run.specs.Grammar.{program_of}
-use Rattle.wm_run.specs.Specification.{source_name}
-use Rattle.wm_run.specs.Report.{report_text}
+use Rattle.wm_run.specs.Outcome.{Decided, Fault, IsAnswer, IsOwn, status_of, text_of}
+use Rattle.wm_run.specs.World.{World}
+use Rattle.wm_run.specs.Proved.{Proof, IsCertificate}
 use Rattle.wm_run.specs.Replay.{whole_replay}
-use Rattle.wm_run.specs.Decision.{Decided, Report, SourceNotYet, SpecificationNotYet, ReadFailed, Words, Replayed, Fault, Bytes, ReadGives, LeadsTo, IsOwn, status_of, text_of, decision_of}
+use Rattle.wm_run.specs.Leads.{LeadsTo, ToldBy}
 
 -- what a call is given, and what is seen of the world outside before and after it
 pub record Call : Type 0 where
   pub words : List (List ℕ)
-  -- what the files hold, which no call changes
-  pub held : Option Held
-  pub file_faults_before : ℕ
-  pub file_faults_after : ℕ
+  pub files : World
   pub written_before : Option (List ℕ)
   pub written_after : Option (List ℕ)
   pub sink_faults_before : ℕ
   pub sink_faults_after : ℕ
 
-abbrev pub call_of : List (List ℕ) → Option Held → ℕ → ℕ → Option (List ℕ) → Option (List ℕ) → ℕ → ℕ → Call
-call_of words held file_faults_before file_faults_after written_before written_after sink_faults_before sink_faults_after =
+abbrev pub call_of : List (List ℕ) → World → Option (List ℕ) → Option (List ℕ) → ℕ → ℕ → Call
+call_of words files written_before written_after sink_faults_before sink_faults_after =
     record {
       words = words;
-      held = held;
-      file_faults_before = file_faults_before;
-      file_faults_after = file_faults_after;
+      files = files;
       written_before = written_before;
       written_after = written_after;
       sink_faults_before = sink_faults_before;
       sink_faults_after = sink_faults_after;
     }
 
--- the words, the files and the count of their faults lead to this decision
+-- the words and the files lead to this decision
 abbrev pub Decides : Call → Decided → Type 0
-Decides call decision = LeadsTo call.words call.held call.file_faults_before call.file_faults_after decision
+Decides call decision = LeadsTo call.words call.files decision
 
 -- what was written grew by these bytes
 abbrev pub Grew : Call → List ℕ → Type 0
@@ -84,63 +77,47 @@ pub record ByDecision (call : Call) (status : ℕ) : Type 0 where
   pub own : IsOwn decision
   pub put : Put call decision status
 
--- how each call ends: by a decision, or by want of memory before there is one
+-- memory ran out before there was a decision, and the files hold what they held
+pub record ByMemory (call : Call) (status : ℕ) : Type 0 where
+  pub kept : call.files.after ≡ call.files.before
+  pub memory : OnlyMemory call.written_before call.written_after status
+
+-- how each call ends
 abbrev pub Ends : Call → ℕ → Type 0
-Ends call status = ByDecision call status ⊎ OnlyMemory call.written_before call.written_after status
+Ends call status = ByDecision call status ⊎ ByMemory call status
 
--- how each call ends over files that tell what they hold and do not fail: by the one decision that they leave
+-- ---- files that tell what they hold and do not fail
+
+-- a decision is reached to which what they hold leads
+pub record ByTold (call : Call) (pairs : Held) (status : ℕ) : Type 0 where
+  pub decision : Decided
+  pub decides : ToldBy call.words call.files pairs decision
+  pub own : IsOwn decision
+  pub put : Put call decision status
+
+abbrev pub EndsByTold : Call → Held → ℕ → Type 0
+EndsByTold call pairs status = Rose call.files.old call.files.new ⊎ (ByTold call pairs status ⊎ ByMemory call status)
+
 abbrev pub EndsAsTold : Call → ℕ → Type 0
-EndsAsTold call status =
-    IfSome call.held (λ pairs. Rose call.file_faults_before call.file_faults_after ⊎ Put call (decision_of call.words pairs) status)
-
--- the files were read so that they give this source file and this program
-pub record ReadsProgram (call : Call) (file : List ℕ) (program : Program) : Type 0 where
-  pub name : List ℕ
-  pub is_prove : form_of call.words ≡ Prove name
-  pub specification : List ℕ
-  pub specification_given : ReadGives call.held call.file_faults_before call.file_faults_after name (Bytes specification)
-  pub names_source : source_name specification ≡ Some file
-  pub source : List ℕ
-  pub source_given : ReadGives call.held call.file_faults_before call.file_faults_after file (Bytes source)
-  pub is_program : program_of source ≡ Some program
-
--- what was written grew by the report of the findings of the program that the files give, and they are sound
-pub record SoundReport (call : Call) : Type 0 where
-  pub file : List ℕ
-  pub program : Program
-  pub read : ReadsProgram call file program
-  pub text : Grew call (report_text file program (findings program all_ones))
-  pub sound : Sound program all_ones (findings program all_ones)
-
--- what was written grew by the text of the run of what the files give
-pub record WholeReplay (call : Call) : Type 0 where
-  pub spec : List ℕ
-  pub samples : List ℕ
-  pub is_replay : form_of call.words ≡ Replay spec samples
-  pub given : Given
-  pub read : Leads call.held call.file_faults_before call.file_faults_after (replay_asked spec samples) (Ok given)
-  pub text : Grew call (whole_replay given)
+EndsAsTold call status = IfSome call.files.before (λ pairs. EndsByTold call pairs status)
 
 -- ---- why each status comes
 
--- it tells that the file of this name could not be read
-abbrev pub TellsRead : List ℕ → Decided → Type 0
-TellsRead name (Report file program found) = ⊥
-TellsRead name SourceNotYet = ⊥
-TellsRead name SpecificationNotYet = ⊥
-TellsRead name (ReadFailed other) = other ≡ name
-TellsRead name Words = ⊥
-TellsRead name (Replayed text) = ⊥
-TellsRead name (Fault fault) = fault ≡ refusals.ReadFailed name
+-- a text that is no refusal was put whole
+pub record Answered (call : Call) (status : ℕ) : Type 0 where
+  pub decision : Decided
+  pub decides : Decides call decision
+  pub answer : IsAnswer decision
+  pub status_is : status ≡ status_of decision
+  pub text : Grew call (text_of decision)
 
 -- the line of a file that could not be read was put; the world outside failed, or the file is not there
 pub record ReadFails (call : Call) : Type 0 where
   pub name : List ℕ
-  pub decision : Decided
-  pub decides : Decides call decision
-  pub tells : TellsRead name decision
-  pub text : Grew call (text_of decision)
-  pub cause : Rose call.file_faults_before call.file_faults_after ⊎ IsSomeAnd call.held (λ pairs. get pairs name ≡ None)
+  pub decides : Decides call (Fault (refusals.ReadFailed name))
+  pub text : Grew call (text_of (Fault (refusals.ReadFailed name)))
+  pub kept : call.files.after ≡ call.files.before
+  pub cause : Rose call.files.old call.files.new ⊎ IsSomeAnd call.files.before (λ pairs. get pairs name ≡ None)
 
 -- the sink failed, and a prefix of the text of a decision was put
 pub record SinkFails (call : Call) : Type 0 where
@@ -150,29 +127,52 @@ pub record SinkFails (call : Call) : Type 0 where
   pub size : ℕ
   pub text : call.written_after ≡ grown call.written_before (take size (text_of decision))
 
--- a form of the words whose command does not stand
-abbrev pub IsUnknown : Form → Type 0
-IsUnknown (Prove name) = ⊥
-IsUnknown (Replay spec samples) = ⊥
-IsUnknown (Check name) = ⊤
-IsUnknown (Demo stages) = ⊤
-IsUnknown (Worst name) = ⊤
-IsUnknown (Headroom name) = ⊤
-IsUnknown (Observe spec samples) = ⊤
-IsUnknown BadWords = ⊤
+-- the line of a certificate that could not be written was put; the world outside failed
+pub record WriteFails (call : Call) : Type 0 where
+  pub name : List ℕ
+  pub decides : Decides call (Fault (refusals.WriteFailed name))
+  pub rose : Rose call.files.old call.files.new
+  pub text : Grew call (text_of (Fault (refusals.WriteFailed name)))
 
 pub record UnknownWords (call : Call) : Type 0 where
-  pub unknown : IsUnknown (form_of call.words)
-  pub text : Grew call (text_of Words)
+  pub unknown : form_of call.words ≡ BadWords
+  pub kept : call.files.after ≡ call.files.before
+  pub text : Grew call (text_of (Fault refusals.Words))
+
+-- ---- what the files hold
+
+-- the name of the certificate holds the text of a proof's certificate, or a prefix of it where the world outside failed
+pub record HoldsCertificate (call : Call) (spec : List ℕ) : Type 0 where
+  pub loaded : Loaded
+  pub read : Leads call.files.before call.files.old call.files.new (load_asked spec) (Ok loaded)
+  pub proof : Proof loaded.program
+  pub name : List ℕ
+  pub named : loaded.settings.certificate ≡ Some name
+  pub bytes : List ℕ
+  pub text : IsCertificate proof bytes
+  pub hold : (call.files.after ≡ with_bytes call.files.before name bytes) ⊎ (Rose call.files.old call.files.new × CutShort call.files.before call.files.after name bytes)
+
+-- prove alone writes, and nothing but its certificate
+abbrev pub HeldBy : Call → Form → Type 0
+HeldBy call (Prove spec) = (call.files.after ≡ call.files.before) ⊎ HoldsCertificate call spec
+HeldBy call (Check spec) = call.files.after ≡ call.files.before
+HeldBy call (Replay spec samples) = call.files.after ≡ call.files.before
+HeldBy call (Demo stages) = call.files.after ≡ call.files.before
+HeldBy call (Worst spec) = call.files.after ≡ call.files.before
+HeldBy call (Headroom spec) = call.files.after ≡ call.files.before
+HeldBy call (Observe spec samples) = call.files.after ≡ call.files.before
+HeldBy call BadWords = call.files.after ≡ call.files.before
+
+-- ---- a replay of valid files
 
 -- the text of the run of what the files give is put whole, unless memory runs out or the world outside fails
 pub record Completes (call : Call) (status : ℕ) (given : Given) : Type 0 where
   pub ends :
-      Rose call.file_faults_before call.file_faults_after
+      Rose call.files.old call.files.new
       ⊎ PutAnswer 0 (whole_replay given) call.written_before call.written_after call.sink_faults_before call.sink_faults_after status
 
 -- files that tell what they hold, and of which the words of a replay make a program and frames, lead to its whole text
 abbrev pub ReplayCompletes : Call → ℕ → Type 0
 ReplayCompletes call status =
     (spec samples : List ℕ) (given : Given) → form_of call.words ≡ Replay spec samples
-    → IfSome call.held (λ pairs. told pairs (replay_asked spec samples) ≡ Ok given → Completes call status given)
+    → IfSome call.files.before (λ pairs. told pairs (replay_asked spec samples) ≡ Ok given → Completes call status given)

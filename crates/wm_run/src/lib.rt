@@ -1,15 +1,12 @@
-//! The top call of the product: words in, a report or one fault line out, and a status.
+//! The top call of the product: words in, a text or one fault line out, and a status.
 #![tactic(auto)]
 
 mod call;
-mod decision;
-mod input;
-mod plain;
-mod reader;
-mod replay;
-mod report;
-mod specification;
-mod tokens;
-mod unread;
+mod checking;
+mod command;
+mod demo;
+mod outcome;
+mod proving;
+mod sampling;
 
 pub use call::run;

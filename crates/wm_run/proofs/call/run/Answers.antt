@@ -1,55 +1,73 @@
 use Rattle.std.specs.Prelude.{map, string_bytes}
-use Rattle.wm_run.specs.Decision.{decided}
+use Rattle.wm_run.specs.Outcome.{decided}
+use Rattle.wm_run.specs.World.{world_of}
 use Rattle.wm_run.specs.Ends.{call_of}
-use Rattle.wm_run.proofs.Causes.{read_fails, sink_fails, only_memory, unknown, completes, memory_completes}
-use Rattle.wm_run.proofs.SoundReports.{report_is_sound}
-use Rattle.wm_run.proofs.Told.{ends_as_told}
+use Rattle.wm_run.proofs.Causes.{answered, holds_after, kept_after, only_memory, read_fails, sink_fails, unknown}
+use Rattle.wm_run.proofs.Told.{completes, ends_as_told, memory_as_told}
 use Rattle.wm_run.proofs.call.run.Goals as goal
-
-pub returns-in-Ok-clause-sound_plain_form : goal.returns-in-Ok-clause-sound_plain_form
-returns-in-Ok-clause-sound_plain_form g c =
-    report_is_sound (call_of (map string_bytes c.args.words.now) (g.F.Files.held c.args.files.now) (g.F.Files.faults c.args.files.now) (g.F.Files.faults c.decide.new.files)
-    (g.S.Sink.written c.args.out.now) (g.S.Sink.written c.put_decision.new.out) (g.S.Sink.faults c.args.out.now) (g.S.Sink.faults c.put_decision.new.out))
-    (decided c.in-Ok.decision) c.put_decision.result c.in-Ok.ensures.leads c.put_decision.ensures.end
 
 pub returns-in-Ok-clause-told : goal.returns-in-Ok-clause-told
 returns-in-Ok-clause-told g c =
-    ends_as_told (call_of (map string_bytes c.args.words.now) (g.F.Files.held c.args.files.now) (g.F.Files.faults c.args.files.now) (g.F.Files.faults c.decide.new.files)
-    (g.S.Sink.written c.args.out.now) (g.S.Sink.written c.put_decision.new.out) (g.S.Sink.faults c.args.out.now) (g.S.Sink.faults c.put_decision.new.out))
-    (decided c.in-Ok.decision) c.put_decision.result c.in-Ok.ensures.leads c.put_decision.ensures.end
+    ends_as_told (call_of (map string_bytes c.args.words.now) (world_of (g.F.Files.held c.args.files.now) (g.F.Files.held c.outcome_of.new.files) (g.F.Files.faults c.args.files.now) (g.F.Files.faults c.outcome_of.new.files))
+    (g.S.Sink.written c.args.out.now) (g.S.Sink.written c.put_outcome.new.out) (g.S.Sink.faults c.args.out.now) (g.S.Sink.faults c.put_outcome.new.out))
+    c.put_outcome.result (decided c.in-Ok.outcome) c.in-Ok.ensures.leads c.in-Ok.ensures.own c.put_outcome.ensures.end
+
+pub returns-in-Ok-clause-answered : goal.returns-in-Ok-clause-answered
+returns-in-Ok-clause-answered g c =
+    answered (call_of (map string_bytes c.args.words.now) (world_of (g.F.Files.held c.args.files.now) (g.F.Files.held c.outcome_of.new.files) (g.F.Files.faults c.args.files.now) (g.F.Files.faults c.outcome_of.new.files))
+    (g.S.Sink.written c.args.out.now) (g.S.Sink.written c.put_outcome.new.out) (g.S.Sink.faults c.args.out.now) (g.S.Sink.faults c.put_outcome.new.out))
+    (decided c.in-Ok.outcome) c.put_outcome.result c.in-Ok.ensures.leads c.put_outcome.ensures.end
 
 pub returns-in-Ok-clause-read_fails : goal.returns-in-Ok-clause-read_fails
 returns-in-Ok-clause-read_fails g c =
-    read_fails (call_of (map string_bytes c.args.words.now) (g.F.Files.held c.args.files.now) (g.F.Files.faults c.args.files.now) (g.F.Files.faults c.decide.new.files)
-    (g.S.Sink.written c.args.out.now) (g.S.Sink.written c.put_decision.new.out) (g.S.Sink.faults c.args.out.now) (g.S.Sink.faults c.put_decision.new.out))
-    (decided c.in-Ok.decision) c.put_decision.result c.in-Ok.ensures.leads c.in-Ok.ensures.own c.put_decision.ensures.end
+    read_fails (call_of (map string_bytes c.args.words.now) (world_of (g.F.Files.held c.args.files.now) (g.F.Files.held c.outcome_of.new.files) (g.F.Files.faults c.args.files.now) (g.F.Files.faults c.outcome_of.new.files))
+    (g.S.Sink.written c.args.out.now) (g.S.Sink.written c.put_outcome.new.out) (g.S.Sink.faults c.args.out.now) (g.S.Sink.faults c.put_outcome.new.out))
+    (decided c.in-Ok.outcome) c.put_outcome.result c.in-Ok.ensures.leads c.in-Ok.ensures.own c.put_outcome.ensures.end
 
 pub returns-in-Ok-clause-sink_fails : goal.returns-in-Ok-clause-sink_fails
 returns-in-Ok-clause-sink_fails g c =
-    sink_fails (call_of (map string_bytes c.args.words.now) (g.F.Files.held c.args.files.now) (g.F.Files.faults c.args.files.now) (g.F.Files.faults c.decide.new.files)
-    (g.S.Sink.written c.args.out.now) (g.S.Sink.written c.put_decision.new.out) (g.S.Sink.faults c.args.out.now) (g.S.Sink.faults c.put_decision.new.out))
-    (decided c.in-Ok.decision) c.put_decision.result c.in-Ok.ensures.leads c.in-Ok.ensures.own c.put_decision.ensures.end
+    sink_fails (call_of (map string_bytes c.args.words.now) (world_of (g.F.Files.held c.args.files.now) (g.F.Files.held c.outcome_of.new.files) (g.F.Files.faults c.args.files.now) (g.F.Files.faults c.outcome_of.new.files))
+    (g.S.Sink.written c.args.out.now) (g.S.Sink.written c.put_outcome.new.out) (g.S.Sink.faults c.args.out.now) (g.S.Sink.faults c.put_outcome.new.out))
+    (decided c.in-Ok.outcome) c.put_outcome.result c.in-Ok.ensures.leads c.in-Ok.ensures.own c.put_outcome.ensures.end
 
 pub returns-in-Ok-clause-memory : goal.returns-in-Ok-clause-memory
 returns-in-Ok-clause-memory g c =
-    only_memory (call_of (map string_bytes c.args.words.now) (g.F.Files.held c.args.files.now) (g.F.Files.faults c.args.files.now) (g.F.Files.faults c.decide.new.files)
-    (g.S.Sink.written c.args.out.now) (g.S.Sink.written c.put_decision.new.out) (g.S.Sink.faults c.args.out.now) (g.S.Sink.faults c.put_decision.new.out))
-    (decided c.in-Ok.decision) c.put_decision.result c.in-Ok.ensures.leads c.in-Ok.ensures.own c.put_decision.ensures.end
+    only_memory (call_of (map string_bytes c.args.words.now) (world_of (g.F.Files.held c.args.files.now) (g.F.Files.held c.outcome_of.new.files) (g.F.Files.faults c.args.files.now) (g.F.Files.faults c.outcome_of.new.files))
+    (g.S.Sink.written c.args.out.now) (g.S.Sink.written c.put_outcome.new.out) (g.S.Sink.faults c.args.out.now) (g.S.Sink.faults c.put_outcome.new.out))
+    (decided c.in-Ok.outcome) c.put_outcome.result c.in-Ok.ensures.leads c.in-Ok.ensures.own c.put_outcome.ensures.end
 
 pub returns-in-Ok-clause-unknown_words : goal.returns-in-Ok-clause-unknown_words
 returns-in-Ok-clause-unknown_words g c =
-    unknown (call_of (map string_bytes c.args.words.now) (g.F.Files.held c.args.files.now) (g.F.Files.faults c.args.files.now) (g.F.Files.faults c.decide.new.files)
-    (g.S.Sink.written c.args.out.now) (g.S.Sink.written c.put_decision.new.out) (g.S.Sink.faults c.args.out.now) (g.S.Sink.faults c.put_decision.new.out))
-    (decided c.in-Ok.decision) c.put_decision.result c.in-Ok.ensures.leads c.in-Ok.ensures.own c.put_decision.ensures.end
+    unknown (call_of (map string_bytes c.args.words.now) (world_of (g.F.Files.held c.args.files.now) (g.F.Files.held c.outcome_of.new.files) (g.F.Files.faults c.args.files.now) (g.F.Files.faults c.outcome_of.new.files))
+    (g.S.Sink.written c.args.out.now) (g.S.Sink.written c.put_outcome.new.out) (g.S.Sink.faults c.args.out.now) (g.S.Sink.faults c.put_outcome.new.out))
+    (decided c.in-Ok.outcome) c.put_outcome.result c.in-Ok.ensures.leads c.in-Ok.ensures.own c.put_outcome.ensures.end
+
+pub returns-in-Ok-clause-held : goal.returns-in-Ok-clause-held
+returns-in-Ok-clause-held g c =
+    holds_after (call_of (map string_bytes c.args.words.now) (world_of (g.F.Files.held c.args.files.now) (g.F.Files.held c.outcome_of.new.files) (g.F.Files.faults c.args.files.now) (g.F.Files.faults c.outcome_of.new.files))
+    (g.S.Sink.written c.args.out.now) (g.S.Sink.written c.put_outcome.new.out) (g.S.Sink.faults c.args.out.now) (g.S.Sink.faults c.put_outcome.new.out))
+    (decided c.in-Ok.outcome) c.in-Ok.ensures.leads
 
 pub returns-in-Ok-clause-replay_completes : goal.returns-in-Ok-clause-replay_completes
 returns-in-Ok-clause-replay_completes g c =
-    let call = (call_of (map string_bytes c.args.words.now) (g.F.Files.held c.args.files.now) (g.F.Files.faults c.args.files.now) (g.F.Files.faults c.decide.new.files)
-    (g.S.Sink.written c.args.out.now) (g.S.Sink.written c.put_decision.new.out) (g.S.Sink.faults c.args.out.now) (g.S.Sink.faults c.put_decision.new.out)) in
-    completes call c.put_decision.result (ends_as_told call (decided c.in-Ok.decision) c.put_decision.result c.in-Ok.ensures.leads c.put_decision.ensures.end)
+    let call = (call_of (map string_bytes c.args.words.now) (world_of (g.F.Files.held c.args.files.now) (g.F.Files.held c.outcome_of.new.files) (g.F.Files.faults c.args.files.now) (g.F.Files.faults c.outcome_of.new.files))
+    (g.S.Sink.written c.args.out.now) (g.S.Sink.written c.put_outcome.new.out) (g.S.Sink.faults c.args.out.now) (g.S.Sink.faults c.put_outcome.new.out)) in
+    completes call c.put_outcome.result (ends_as_told call c.put_outcome.result (decided c.in-Ok.outcome) c.in-Ok.ensures.leads c.in-Ok.ensures.own c.put_outcome.ensures.end)
+
+pub returns-in-Err-clause-told : goal.returns-in-Err-clause-told
+returns-in-Err-clause-told g c =
+    memory_as_told (call_of (map string_bytes c.args.words.now) (world_of (g.F.Files.held c.args.files.now) (g.F.Files.held c.outcome_of.new.files) (g.F.Files.faults c.args.files.now) (g.F.Files.faults c.outcome_of.new.files))
+    (g.S.Sink.written c.args.out.now) (g.S.Sink.written c.put_memory.new.out) (g.S.Sink.faults c.args.out.now) (g.S.Sink.faults c.put_memory.new.out))
+    c.put_memory.result (record { kept = c.in-Err.ensures.kept; memory = c.put_memory.ensures.end })
 
 pub returns-in-Err-clause-replay_completes : goal.returns-in-Err-clause-replay_completes
 returns-in-Err-clause-replay_completes g c =
-    memory_completes (call_of (map string_bytes c.args.words.now) (g.F.Files.held c.args.files.now) (g.F.Files.faults c.args.files.now) (g.F.Files.faults c.decide.new.files)
+    let call = (call_of (map string_bytes c.args.words.now) (world_of (g.F.Files.held c.args.files.now) (g.F.Files.held c.outcome_of.new.files) (g.F.Files.faults c.args.files.now) (g.F.Files.faults c.outcome_of.new.files))
+    (g.S.Sink.written c.args.out.now) (g.S.Sink.written c.put_memory.new.out) (g.S.Sink.faults c.args.out.now) (g.S.Sink.faults c.put_memory.new.out)) in
+    completes call c.put_memory.result (memory_as_told call c.put_memory.result (record { kept = c.in-Err.ensures.kept; memory = c.put_memory.ensures.end }))
+
+pub returns-in-Err-clause-held : goal.returns-in-Err-clause-held
+returns-in-Err-clause-held g c =
+    kept_after (call_of (map string_bytes c.args.words.now) (world_of (g.F.Files.held c.args.files.now) (g.F.Files.held c.outcome_of.new.files) (g.F.Files.faults c.args.files.now) (g.F.Files.faults c.outcome_of.new.files))
     (g.S.Sink.written c.args.out.now) (g.S.Sink.written c.put_memory.new.out) (g.S.Sink.faults c.args.out.now) (g.S.Sink.faults c.put_memory.new.out))
-    c.put_memory.result c.put_memory.ensures.end
+    c.in-Err.ensures.kept
