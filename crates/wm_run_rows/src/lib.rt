@@ -1,9 +1,20 @@
-//! Calls over memory, worked by hand: reports, replays, refusals, and reads and puts that fail in turn.
+//! Calls of each command over memory, worked by hand: reports, certificates, texts of choices, replays, refusals, and reads, writes
+//! and puts that fail in turn.
 #![tactic(auto)]
 
 #[cfg(test)]
+mod boxes;
+#[cfg(test)]
 mod calls;
 #[cfg(test)]
-mod replays;
+mod certificates;
 #[cfg(test)]
-mod reports;
+mod choices;
+#[cfg(test)]
+mod programs;
+#[cfg(test)]
+mod proofs;
+#[cfg(test)]
+mod refusals;
+#[cfg(test)]
+mod replays;

@@ -1,5 +1,5 @@
 // Replays and their refusals as tables: the files that are held, the words, and what is answered and written.
-use crate::calls::{Answer, call};
+use crate::calls::{Answer, call, call_failing, expect};
 use std::alloc::Global;
 use std::test::Fail;
 
@@ -15,7 +15,7 @@ fn replay(
         ("a.c", source),
         ("x.bin", samples),
     ];
-    call(alloc, &["replay", "s.toml", "x.bin"], &held, &[], &[])
+    call(alloc, &["replay", "s.toml", "x.bin"], &held)
 }
 
 const QUOTIENT: &[u8] = b"source = \"a.c\"\n[range]\na = [0, 11]\nb = [10, 20]\n";
@@ -82,8 +82,7 @@ fn replays(rt: HostRuntime) -> Result<(), Fail> {
     ];
     for (specification, source, samples, text) in cases {
         let answer = replay(alloc, specification, source, samples)?;
-        assert_eq!(rt; answer.status, 0, "{text}");
-        assert_eq!(rt; answer.text.as_slice(), text.as_bytes());
+        expect(&rt, &answer, 0, text);
     }
     Ok(())
 }
@@ -135,11 +134,10 @@ void frame(void) {\n\
         ("x.bin", samples.as_slice()),
     ];
     let words = ["replay", "s.toml", "x.bin"];
-    let answer = call(alloc, &words, &held, &[], &[])?;
+    let answer = call(alloc, &words, &held)?;
     let text =
         "wmops replay 1\ninit count 2 overflow 0 ended\nframe 1 count 499 overflow 0 ended\n";
-    assert_eq!(rt; answer.text.as_slice(), text.as_bytes());
-    assert_eq!(rt; answer.status, 0);
+    expect(&rt, &answer, 0, text);
     Ok(())
 }
 
@@ -174,8 +172,7 @@ fn refused_samples_and_specifications(rt: HostRuntime) -> Result<(), Fail> {
     ];
     for (specification, source, samples, text) in cases {
         let answer = replay(alloc, specification, source, samples)?;
-        assert_eq!(rt; answer.status, 3, "{text}");
-        assert_eq!(rt; answer.text.as_slice(), text.as_bytes());
+        expect(&rt, &answer, 3, text);
     }
     Ok(())
 }
@@ -192,12 +189,8 @@ fn a_word_without_weight(rt: HostRuntime) -> Result<(), Fail> {
         ("a.c", b"Word16 y;\nvoid frame(void) { y = sub(y, 1); }\n"),
         ("x.bin", b""),
     ];
-    let answer = call(alloc, &["replay", "s.toml", "x.bin"], &held, &[], &[])?;
-    assert_eq!(rt;
-        answer.text.as_slice(),
-        b"fault 3 MissingWeight sub\n".as_slice()
-    );
-    assert_eq!(rt; answer.status, 3);
+    let answer = call(alloc, &["replay", "s.toml", "x.bin"], &held)?;
+    expect(&rt, &answer, 3, "fault 3 MissingWeight sub\n");
     Ok(())
 }
 
@@ -229,8 +222,7 @@ fn refused_sources(rt: HostRuntime) -> Result<(), Fail> {
     ];
     for (source, text) in cases {
         let answer = replay(alloc, specification, source, b"")?;
-        assert_eq!(rt; answer.status, 2, "{text}");
-        assert_eq!(rt; answer.text.as_slice(), text.as_bytes());
+        expect(&rt, &answer, 2, text);
     }
     Ok(())
 }
@@ -256,9 +248,8 @@ fn reads_that_fail_in_turn(rt: HostRuntime) -> Result<(), Fail> {
         (5, 0, "wmops replay 1\n"),
     ];
     for (failing, status, text) in cases {
-        let answer = call(alloc, &words, &held, &[failing], &[])?;
-        assert_eq!(rt; answer.status, status, "{text}");
-        assert_eq!(rt; answer.text.as_slice(), text.as_bytes());
+        let answer = call_failing(alloc, &words, &held, &[failing], &[])?;
+        expect(&rt, &answer, status, text);
     }
     for missing in 0..held.len() {
         let mut others = Vec::new(alloc);
@@ -267,11 +258,7 @@ fn reads_that_fail_in_turn(rt: HostRuntime) -> Result<(), Fail> {
                 others.push(*file)?;
             }
         }
-        assert_eq!(rt;
-            call(alloc, &words, &others, &[], &[])?.status,
-            5,
-            "{missing}"
-        );
+        assert_eq!(rt; call(alloc, &words, &others)?.status, 5, "{missing}");
     }
     Ok(())
 }
@@ -286,27 +273,10 @@ fn puts_that_fail(rt: HostRuntime) -> Result<(), Fail> {
     ];
     let words = ["replay", "s.toml", "x.bin"];
     for failing_reads in [[9u64].as_slice(), &[2]] {
-        let whole = call(alloc, &words, &held, failing_reads, &[2])?;
-        let cut = call(alloc, &words, &held, failing_reads, &[1])?;
+        let whole = call_failing(alloc, &words, &held, failing_reads, &[2])?;
+        let cut = call_failing(alloc, &words, &held, failing_reads, &[1])?;
         assert_eq!(rt; cut.status, 6);
         assert!(rt; whole.text.starts_with(&cut.text));
-    }
-    Ok(())
-}
-
-#[test]
-fn commands_that_do_not_stand(rt: HostRuntime) -> Result<(), Fail> {
-    let alloc = rt.alloc();
-    let cases = [
-        ["check", "s.toml"].as_slice(),
-        &["replay", "s.toml"],
-        &["observe", "s.toml", "x.bin"],
-        &["demo", "3"],
-    ];
-    for words in cases {
-        let answer = call(alloc, words, &[], &[], &[])?;
-        assert_eq!(rt; answer.status, 8, "{words:?}");
-        assert_eq!(rt; answer.text.as_slice(), b"fault 8 words\n".as_slice());
     }
     Ok(())
 }
@@ -384,8 +354,8 @@ fn refusals_in_their_order(rt: HostRuntime) -> Result<(), Fail> {
             ("a.c", source),
             ("x.bin", samples),
         ];
-        let answer = call(alloc, &["replay", "s.toml", "x.bin"], &held, &[], &[])?;
-        assert_eq!(rt; answer.text.as_slice(), text.as_bytes());
+        let answer = call(alloc, &["replay", "s.toml", "x.bin"], &held)?;
+        assert!(rt; answer.text.as_slice() == text.as_bytes(), "{text}");
     }
     Ok(())
 }
