@@ -1,2 +1,2 @@
 Word16 x, y;
-void frame(void) { x = add(1, 2); y = sub(x, 4); }
+void frame(void) { y = add(x, 1); }
