@@ -3,5 +3,6 @@
 
 mod drawn;
 mod projecting;
+mod whole;
 
 pub use projecting::projected;

@@ -8,6 +8,7 @@ ghost use Rattle.wm_tied.specs.Leaving.{IsLeft};
 ghost use Rattle.wm_tied.specs.Projecting.{ArePicked};
 
 use crate::drawn::{drawn_ranges, fitted, without_points};
+use crate::whole::is_identity;
 use std::alloc::Global;
 use wm_interval::Interval;
 use wm_ops::NoMemory;
@@ -37,6 +38,10 @@ pub fn projected(
     ensures array_full { IfOk result (λ t. t.spans.array_full ≡ arrays.now) }
     ensures left { IfOk result (λ t. IsLeft t (Projected (In tied.now) picks.now array_picks.now)) }
 {
+    if is_identity(tied, group, singles, arrays, picks, array_picks) {
+        let same = tied.copy(alloc)?;
+        return Ok(same);
+    }
     let fit = fitted(tied, alloc, group, singles, picks)?;
     if fit.is_empty() {
         let none = without_points(alloc, group, singles, arrays)?;

@@ -64,6 +64,20 @@ impl Spans {
         range_of(self.ranges.as_slice(), v)
     }
 
+    /// The full ranges of the variables.
+    pub fn full(&self) -> &[Interval]
+        ensures value { result.now ≡ self.now.full }
+    {
+        self.full.as_slice()
+    }
+
+    /// The full ranges of the cells of the arrays.
+    pub fn array_full(&self) -> &[Interval]
+        ensures value { result.now ≡ self.now.array_full }
+    {
+        self.array_full.as_slice()
+    }
+
     /// The full range of variable `v`.
     pub fn full_range(&self, v: usize) -> Interval
         requires inside { v < length self.now.full }

@@ -269,6 +269,13 @@ impl Tied {
         self.spans.join_with(&other.spans);
     }
 
+    /// The full ranges of the variables of the group.
+    pub fn group(&self) -> &[Interval]
+        ensures value { result.now ≡ self.now.group }
+    {
+        self.group.as_slice()
+    }
+
     /// How many variables the group has.
     pub fn count(&self) -> usize
         ensures value { result ≡ length self.now.group }
