@@ -1,6 +1,6 @@
 // Images along the edges of heads.
 ghost use Rattle.std.specs.Prelude.{◌≡◌, slice_get, Some, IfOk, IfSome};
-ghost use Rattle.wm_images.specs.Labels.{AreShaped};
+ghost use Rattle.wm_images.specs.Labels.{AreShaped, Receives};
 ghost use Rattle.wm_images.specs.Nodes.{node_shape};
 ghost use Rattle.wm_walk.specs.Graphs.{AreDrawn};
 
@@ -38,6 +38,7 @@ pub(crate) fn image_into<D: Domain, M: Images<D>>(
     requires drawn { AreDrawn M.drawn graph.now }
     requires kept { AreShaped D.shape_of graph.now kept.now.1 }
     ensures shape { IfOk result (λ s. D.shape_of s ≡ node_shape graph.now node) }
+    ensures sound { IfOk result (λ s. Receives M.allowed D.holds D.shape_of graph.now kept.now.1 number s) }
 {
     let Some(_edge) = edge_into(graph, number, node) else {
         return Err(NoMemory);

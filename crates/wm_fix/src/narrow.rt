@@ -1,9 +1,10 @@
 // Narrowing: each head gets the least state that holds the images along its two edges, by the labels of the states before.
-ghost use Rattle.std.specs.Prelude.{◌≡◌, ◌<◌, ◌≤◌, length, All, IfOk, OnOk};
+ghost use Rattle.std.specs.Prelude.{◌≡◌, ◌<◌, ◌≤◌, length, All, IfOk, IfSome, OnOk};
 ghost use Rattle.wm_domain.specs.States.{IsShape};
 ghost use Rattle.wm_images.specs.Labels.{AreShaped};
 ghost use Rattle.wm_walk.specs.Graphs.{AreDrawn, AreStates};
 ghost use Rattle.wm_walk.specs.Rows.{AreRows};
+ghost use Rattle.wm_fix.specs.Setting.{HoldsEntry, HoldsBack};
 
 use crate::edges::image_into;
 use crate::nodes::{make, pass};
@@ -32,6 +33,7 @@ fn join_entry<D: Domain, M: Images<D>>(
     requires kept { AreShaped D.shape_of graph.now kept.now.1 }
     requires next { AreStates D.shape_of graph.now next.old.items }
     ensures next { OnOk result (AreStates D.shape_of graph.now next.new.items) }
+    ensures entry { OnOk result (IfSome head (λ number. HoldsEntry M.allowed D.holds D.shape_of graph.now kept.now.1 next.new.items number)) }
 {
     let Some(number) = head else {
         return Ok(());
@@ -56,6 +58,7 @@ fn join_back<D: Domain, M: Images<D>>(
     requires kept { AreShaped D.shape_of graph.now kept.now.1 }
     requires next { AreStates D.shape_of graph.now next.old.items }
     ensures next { OnOk result (AreStates D.shape_of graph.now next.new.items) }
+    ensures back { OnOk result (IfSome back (λ number. HoldsBack M.allowed D.holds D.shape_of graph.now kept.now.1 next.new.items number)) }
 {
     let Some(number) = back else {
         return Ok(());

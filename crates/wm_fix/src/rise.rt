@@ -7,6 +7,7 @@ ghost use Rattle.wm_images.specs.Labels.{AreShaped};
 ghost use Rattle.wm_walk.specs.Graphs.{AreDrawn, AreStates};
 ghost use Rattle.wm_walk.specs.Rows.{AreRows};
 ghost use Rattle.wm_regions.specs.Ends.{AreAt};
+ghost use Rattle.wm_fix.specs.Setting.{HoldsEntry, HoldsBack};
 
 use crate::edges::image_into;
 use crate::nodes::{give_up_between, make, pass};
@@ -66,6 +67,13 @@ fn mark_at(marks: &[bool], number: u32) -> bool {
     }
 }
 
+/// Takes the mark of a head away whose state rose.
+fn unmark(marks: &mut Vec<bool>, number: u32, rose: bool) {
+    if rose {
+        set_mark(marks, number, false);
+    }
+}
+
 /// The next node.
 fn after(node: u32) -> Result<u32, NoMemory> {
     match u32::checked_add(node, 1) {
@@ -91,6 +99,7 @@ fn enter<D: Domain, M: Images<D>>(
     requires kept { AreShaped D.shape_of graph.now rising.old.kept.1 }
     ensures states { OnOk result (AreStates D.shape_of graph.now rising.new.states.items) }
     ensures kept { OnOk result (AreShaped D.shape_of graph.now rising.new.kept.1) }
+    ensures entry { OnOk result (HoldsEntry M.allowed D.holds D.shape_of graph.now rising.old.kept.1 rising.new.states.items number) }
 {
     let Some(head) = head_at(graph, number) else {
         return Err(NoMemory);
@@ -99,9 +108,8 @@ fn enter<D: Domain, M: Images<D>>(
         return Err(NoMemory);
     };
     let image = image_into(alloc, images, graph, &rising.kept, head.entry, node)?;
-    if raise(alloc, graph, grid, &mut rising.states, number, node, image)? {
-        set_mark(&mut rising.hold, number, false);
-    }
+    let rose = raise(alloc, graph, grid, &mut rising.states, number, node, image)?;
+    unmark(&mut rising.hold, number, rose);
     if mark_at(rising.hold.as_slice(), number) {
         return after(last);
     }
@@ -150,6 +158,7 @@ fn turn<D: Domain, M: Images<D>>(
     requires kept { AreShaped D.shape_of graph.now rising.old.kept.1 }
     ensures states { OnOk result (AreStates D.shape_of graph.now rising.new.states.items) }
     ensures kept { OnOk result (AreShaped D.shape_of graph.now rising.new.kept.1) }
+    ensures back { OnOk result (HoldsBack M.allowed D.holds D.shape_of graph.now rising.old.kept.1 rising.new.states.items number) }
 {
     let Some(head) = head_at(graph, number) else {
         return Err(NoMemory);

@@ -1,9 +1,11 @@
 // The states of the heads while they change.
 ghost use Rattle.std.specs.Prelude.{◌≡◌, ◌<◌, length, slice_get, slice_set, Some, All, IfOk, IfSome, OnOk};
+ghost use Rattle.wm_domain.specs.Points.{Point};
 ghost use Rattle.wm_domain.specs.States.{IsShape};
+ghost use Rattle.wm_domain.specs.Changes.{InEither};
 ghost use Rattle.wm_images.specs.Nodes.{node_shape};
 ghost use Rattle.wm_walk.specs.Graphs.{AreStates};
-ghost use Rattle.wm_fix.specs.Setting.{IsSetAs};
+ghost use Rattle.wm_fix.specs.Setting.{IsSetAs, HoldsAt, IsShapedAt, IsLeastOn};
 
 use std::alloc::Global;
 use wm_domain::{Domain, Shape};
@@ -77,6 +79,8 @@ fn raised<D: Domain>(
     requires state { D.shape_of state.now ≡ shape.now }
     requires image { D.shape_of image ≡ shape.now }
     ensures shape { IfOk result (λ s. D.shape_of s ≡ shape.now) }
+    ensures holds { IfOk result (λ s. (p : Point) → InEither (D.holds image) (D.holds state.now) p → D.holds s p) }
+    ensures least { IfOk result (λ s. IsLeastOn grid.now D.PAIRS D.holds D.shape_of shape.now (InEither (D.holds image) (D.holds state.now)) s) }
 {
     image.join_with(state);
     rounded(alloc, shape, grid, &image)
@@ -96,6 +100,8 @@ pub(crate) fn raise<D: Domain>(
     requires states { AreStates D.shape_of graph.now states.old.items }
     requires image { D.shape_of image ≡ node_shape graph.now node }
     ensures states { OnOk result (AreStates D.shape_of graph.now states.new.items) }
+    ensures holds { OnOk result (HoldsAt D.holds states.new.items number (D.holds image)) }
+    ensures shape { OnOk result (IsShapedAt D.shape_of states.new.items number (D.shape_of image)) }
 {
     let Some(_head) = head_there(graph, number, node) else {
         return Err(NoMemory);
@@ -119,6 +125,7 @@ fn join_at<D: Domain>(states: &mut Vec<D>, place: usize, image: &D)
     requires inside { place < length states.old.items }
     requires shape { IfSome (slice_get states.old.items place) (λ state. D.shape_of state ≡ D.shape_of image.now) }
     ensures joined { IsSetAs D.shape_of states.old.items place states.new.items }
+    ensures holds { HoldsAt D.holds states.new.items place (D.holds image.now) }
 {
     states[place].join_with(image);
 }
@@ -134,6 +141,8 @@ pub(crate) fn join<D: Domain>(
     requires states { AreStates D.shape_of graph.now states.old.items }
     requires image { D.shape_of image.now ≡ node_shape graph.now node }
     ensures states { OnOk result (AreStates D.shape_of graph.now states.new.items) }
+    ensures holds { OnOk result (HoldsAt D.holds states.new.items number (D.holds image.now)) }
+    ensures shape { OnOk result (IsShapedAt D.shape_of states.new.items number (D.shape_of image.now)) }
 {
     let Some(_head) = head_there(graph, number, node) else {
         return Err(NoMemory);

@@ -1,5 +1,5 @@
 -- The choices of frame functions are worst choices.
-use Rattle.std.proofs.Common.{◌≡◌, ℕ, List, [], ◌∷◌, map, Option, All, sym, subst, refl}
+use Rattle.std.proofs.Common.{◌≡◌, ℕ, List, [], ◌∷◌, map, Option, sym, subst, refl}
 use Rattle.std.proofs.lemmas.List.Elements.{All-nil, All-cons}
 use Rattle.wm_flow.specs.declared.graph.Facts.{Facts}
 use Rattle.wm_flow.specs.declared.graph.Graph.{Graph}

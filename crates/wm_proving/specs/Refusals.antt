@@ -1,6 +1,5 @@
 -- Why a certificate is refused.
-use Rattle.std.specs.Prelude.{◌≡◌, ◌⊎◌, ℕ, Bool, true, List, [], Ok, Err, ⊤}
-use Rattle.wm_program.specs.declared.program.Program.{Program}
+use Rattle.std.specs.Prelude.{◌≡◌, ◌⊎◌, ℕ, Bool, true, List, Ok, Err, ⊤}
 use Rattle.wm_report.specs.declared.fault.RunFault.{RunFault}
 use Rattle.wm_report.specs.declared.fault.RunFault.TheVariants as run
 use Rattle.wm_cert_fault.specs.declared.fault.CertFault.{CertFault}

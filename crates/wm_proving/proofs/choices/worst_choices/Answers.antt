@@ -1,4 +1,4 @@
-use Rattle.std.proofs.Common.{◌≡◌, List, map, Option}
+use Rattle.std.proofs.Common.{◌≡◌, map}
 use Rattle.std.proofs.lemmas.Result.{IfOk-weaker}
 use Rattle.wm_proving.specs.Worst.{AreWorst, choice_in}
 use Rattle.wm_proving.proofs.Choosing.{are_worst}
