@@ -1,7 +1,6 @@
 -- Labels that are kept and given up have the shapes of their nodes.
-use Rattle.std.proofs.Common.{◌≡◌, refl, sym, subst, ℕ, List, [], ◌∷◌, ◌++◌}
+use Rattle.std.proofs.Common.{◌≡◌, sym, subst, ℕ, List, [], ◌∷◌, ◌++◌}
 use Rattle.std.proofs.lemmas.List.Elements.{All-push, All-nil}
-use Rattle.std.specs.Prelude.{All}
 use Rattle.wm_domain.specs.declared.shape.Shape.{Shape}
 use Rattle.wm_flow.specs.declared.graph.Graph.{Graph}
 use Rattle.wm_images.specs.Nodes.{node_shape}

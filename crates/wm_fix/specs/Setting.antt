@@ -2,7 +2,6 @@
 use Rattle.std.specs.Prelude.{ℕ, ◌≡◌, ℤ, Bool, List, slice_get, slice_set, Some}
 use Rattle.wm_domain.specs.declared.shape.Shape.{Shape}
 use Rattle.wm_domain.specs.Points.{Point}
-use Rattle.wm_domain.specs.Changes.{InEither}
 use Rattle.wm_flow.specs.declared.graph.Head.{Head}
 use Rattle.wm_flow.specs.declared.graph.Graph.{Graph}
 use Rattle.wm_images.specs.Labels.{Receives}
