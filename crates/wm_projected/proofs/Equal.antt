@@ -23,6 +23,7 @@ unfolding made
 alike i j l h = meet i.low i.high i.ordered j.low j.high j.ordered l h
 
 pub same_range : (a b : Interval) → Decides (eq-value.it a b) (a ≡ b)
-same_range a b = let both = Decides-and (int_eq a.low b.low) (int_eq a.high b.high) (Decides-int_eq a.low b.low) (Decides-int_eq a.high b.high) in
-    (λ e. let ends = both.0 e in alike a b ends.0 ends.1,
-     λ e. both.1 (ap (λ (r : Interval). r.low) e, ap (λ (r : Interval). r.high) e))
+same_range a b = let both = Decides-and (int_eq a.low b.low) (int_eq a.high b.high) (Decides-int_eq a.low b.low) (Decides-int_eq a.high b.high) in (
+  λ e. let ends = both.0 e in alike a b ends.0 ends.1,
+  λ e. both.1 (ap (λ (r : Interval). r.low) e, ap (λ (r : Interval). r.high) e),
+)

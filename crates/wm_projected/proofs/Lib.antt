@@ -1,3 +1,4 @@
 pub mod Turns
 pub mod Equal
 pub mod Staying
+pub mod Picked

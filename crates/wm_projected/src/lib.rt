@@ -2,6 +2,7 @@
 #![tactic(auto)]
 
 mod drawn;
+mod lying;
 mod projecting;
 mod whole;
 

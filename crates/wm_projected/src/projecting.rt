@@ -8,6 +8,7 @@ ghost use Rattle.wm_tied.specs.Leaving.{IsLeft};
 ghost use Rattle.wm_tied.specs.Projecting.{ArePicked};
 
 use crate::drawn::{drawn_ranges, fitted, without_points};
+use crate::lying::is_fitting;
 use crate::whole::is_identity;
 use std::alloc::Global;
 use wm_interval::Interval;
@@ -42,6 +43,66 @@ pub fn projected(
         let same = tied.copy(alloc)?;
         return Ok(same);
     }
+    let moved = moved(tied, alloc, group, singles, arrays, picks, array_picks)?;
+    Ok(moved)
+}
+
+// the same where something leaves its place
+fn moved(
+    tied: &Tied,
+    alloc: Global,
+    group: &[Interval],
+    singles: &[Interval],
+    arrays: &[Interval],
+    picks: &[Option<u32>],
+    array_picks: &[Option<u32>],
+) -> Result<Tied, NoMemory>
+    requires few { length group.now ≤ 32 }
+    requires group { All IsNarrow group.now }
+    requires singles { All IsNarrow singles.now }
+    requires long { length picks.now ≡ length group.now + length singles.now }
+    requires arrays_long { length array_picks.now ≡ length arrays.now }
+    requires picks { ArePicks (length tied.now.group + length tied.now.spans.full) picks.now }
+    requires array_picks { ArePicks (length tied.now.spans.array_full) array_picks.now }
+    ensures group { IfOk result (λ t. t.group ≡ group.now) }
+    ensures full { IfOk result (λ t. t.spans.full ≡ singles.now) }
+    ensures array_full { IfOk result (λ t. t.spans.array_full ≡ arrays.now) }
+    ensures left { IfOk result (λ t. IsLeft t (Projected (In tied.now) picks.now array_picks.now)) }
+{
+    if tied.is_empty() {
+        let none = without_points(alloc, group, singles, arrays)?;
+        return Ok(none);
+    }
+    if is_fitting(tied, group, singles, picks) {
+        let lent = gathered(tied, alloc, group, singles, arrays, picks, array_picks)?;
+        return Ok(lent);
+    }
+    let cut = refitted(tied, alloc, group, singles, arrays, picks, array_picks)?;
+    Ok(cut)
+}
+
+// the same where picked variables may lie outside the full ranges for their places: they are cut in a copy
+fn refitted(
+    tied: &Tied,
+    alloc: Global,
+    group: &[Interval],
+    singles: &[Interval],
+    arrays: &[Interval],
+    picks: &[Option<u32>],
+    array_picks: &[Option<u32>],
+) -> Result<Tied, NoMemory>
+    requires few { length group.now ≤ 32 }
+    requires group { All IsNarrow group.now }
+    requires singles { All IsNarrow singles.now }
+    requires long { length picks.now ≡ length group.now + length singles.now }
+    requires arrays_long { length array_picks.now ≡ length arrays.now }
+    requires picks { ArePicks (length tied.now.group + length tied.now.spans.full) picks.now }
+    requires array_picks { ArePicks (length tied.now.spans.array_full) array_picks.now }
+    ensures group { IfOk result (λ t. t.group ≡ group.now) }
+    ensures full { IfOk result (λ t. t.spans.full ≡ singles.now) }
+    ensures array_full { IfOk result (λ t. t.spans.array_full ≡ arrays.now) }
+    ensures left { IfOk result (λ t. IsLeft t (Projected (In tied.now) picks.now array_picks.now)) }
+{
     let fit = fitted(tied, alloc, group, singles, picks)?;
     if fit.is_empty() {
         let none = without_points(alloc, group, singles, arrays)?;
