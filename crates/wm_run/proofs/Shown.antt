@@ -22,7 +22,7 @@ use Rattle.wm_program.specs.declared.program.Program.{Program}
 use Rattle.wm_program.specs.declared.spec.Spec.{Spec}
 use Rattle.wm_program.specs.Settings.{settings_of}
 use Rattle.wm_proving.specs.Proofs.{IsProved}
-use Rattle.wm_proving.specs.Worst.{AreWorst}
+use Rattle.wm_proving.specs.Worst.{AreOfParts, AreWorst}
 use Rattle.wm_replay.specs.Replay.{numbers_of}
 use Rattle.wm_weights.specs.Table.{weight_of}
 use Rattle.wm_worst_text.specs.Text.{worst_text}
@@ -80,13 +80,14 @@ module _ (loaded : Given) (graph : Graph) (heads : List Groups) (proved : IsProv
     judged : Judged safe text ≡ Judged (is_safe findings) text
     judged = ap (λ (b : Bool). Judged b text) same
 
-    pub worst_shown : (chosen choices : List (Option Choice)) → choices ≡ chosen → AreWorst graph loaded.weights chosen
+    pub worst_shown : (chosen choices : List (Option Choice)) → choices ≡ chosen → AreWorst graph loaded.weights chosen → AreOfParts loaded.program graph loaded.weights chosen
         → text ≡ worst_text graph loaded.weights loaded.spec findings choices → WorstAs (loaded_of loaded) (Judged safe text)
-    worst_shown chosen choices shown worst e = record {
+    worst_shown chosen choices shown worst parts e = record {
       proof = proof;
       findings = findings;
       choices = choices;
       worst = subst (AreWorst graph loaded.weights) (sym shown) worst;
+      parts = subst (AreOfParts loaded.program graph loaded.weights) (sym shown) parts;
       is = judged ∙ ap (Judged (is_safe findings)) (same_text loaded.program loaded.spec findings text (λ s. worst_text graph loaded.weights s findings choices) e);
     }
 

@@ -1,5 +1,6 @@
 -- What is proved of a loaded program, and the texts that tell it.
 use Rattle.std.specs.Prelude.{◌≡◌, ◌⊎◌, ℕ, true, List, Option, Some, None}
+use Rattle.wm_cert_states.specs.Told.{AreOfText}
 use Rattle.wm_cert_write.specs.Heads.{IsTextOf}
 use Rattle.wm_files.specs.Outside.{Rose, with_bytes, CutShort}
 use Rattle.wm_findings.specs.declared.findings.Findings.{Findings}
@@ -15,7 +16,7 @@ use Rattle.wm_program.specs.declared.program.Program.{Program}
 use Rattle.wm_program.specs.Settings.{Settings}
 use Rattle.wm_proving.specs.Proofs.{IsChecked, IsProved}
 use Rattle.wm_proving.specs.Refusals.{Refuses}
-use Rattle.wm_proving.specs.Worst.{AreWorst}
+use Rattle.wm_proving.specs.Worst.{AreOfParts, AreWorst}
 use Rattle.wm_report.specs.declared.fault.RunFault.{RunFault}
 use Rattle.wm_report.specs.declared.fault.RunFault.TheVariants.{WriteFailed}
 use Rattle.wm_worst_text.specs.Text.{worst_text}
@@ -72,12 +73,13 @@ pub record ProvedAs (world : World) (loaded : Loaded) (d : Decided) : Type 0 whe
 
 -- ---- the other commands that find a certificate
 
--- what worst comes to
+-- what worst comes to; the choices are one for each frame function, in their order
 pub record WorstAs (loaded : Loaded) (d : Decided) : Type 0 where
   pub proof : Proof loaded.program
   pub findings : Findings
   pub choices : List (Option Choice)
   pub worst : AreWorst proof.graph loaded.weights choices
+  pub parts : AreOfParts loaded.program proof.graph loaded.weights choices
   pub is : d ≡ Judged (is_safe findings) (worst_text proof.graph loaded.weights (spec_of loaded.settings) findings choices)
 
 -- what headroom comes to
@@ -90,11 +92,12 @@ pub record HeadroomAs (loaded : Loaded) (d : Decided) : Type 0 where
 
 -- ---- a certificate that is read
 
--- the certificate is accepted, and the report is told
+-- the certificate is accepted, its states are those of its text, and the report is told
 pub record IsAcceptedAs (given : Check) (d : Decided) : Type 0 where
   pub graph : Graph
   pub heads : List Groups
   pub checked : IsChecked holds shape_of true given.program given.certificate graph heads
+  pub states : AreOfText shape_of holds true given.certificate heads
   pub findings : Findings
   pub is : d ≡ report_of given.program given.settings findings
 

@@ -2,6 +2,7 @@
 
 ghost use Rattle.std.specs.Prelude.{◌≡◌, ◌≤◌, true, IfOk};
 ghost use Rattle.std.specs.Result.{MatchResult};
+ghost use Rattle.wm_cert_states.specs.Told.{AreOfText};
 ghost use Rattle.wm_load.specs.Check.{check_of};
 ghost use Rattle.wm_load.specs.Checking.{check_asked};
 ghost use Rattle.wm_proving.specs.Proofs.{IsChecked};
@@ -25,6 +26,7 @@ use wm_report::RunFault;
 /// What the certificate that was read proves.
 fn proof_in(alloc: Global, given: &Check) -> Result<Proof<Groups>, RunFault>
     ensures answer { MatchResult result (λ proof. IsChecked holds shape_of true given.now.program given.now.certificate.items proof.graph proof.certificate.heads) (Refuses true given.now.certificate.items) }
+    ensures text { IfOk result (λ proof. AreOfText shape_of holds true given.now.certificate.items proof.certificate.heads) }
 {
     checked(alloc, &given.program, &given.weights, &given.certificate)
 }
