@@ -249,6 +249,43 @@ fn actions(rt: HostRuntime) -> Result<(), Fail> {
             9 -> 1 enter [ 3 ] [ ]\n\
             head 1 in - loop - entry 0 back 9\n",
         ),
+        // a form as an argument of an operator, which is narrowed before the operator counts
+        (
+            ALONE,
+            "Word16 x, y; void frame(void) { x = add(y - 1, x); }\n",
+            "nodes 9\n\
+            0 in - 2+1+0\n\
+            2 in 0 2+1+0\n\
+            0 -> 1 enter [ 0 1 2 ] [ ]\n\
+            1 -> 2 enter [ 0 1 2 ] [ ]\n\
+            2 -> 3 inputs\n\
+            3 -> 4 test +x1-1 in -2147483648..2147483647 Difference +x1+0 +1 site 2\n\
+            4 -> 5 test +x1-1 in -32768..32767 Itself +x1-1 site 1\n\
+            5 -> 6 count Operator(Add)\n\
+            6 -> 7 x0 = Add +x1-1 +x0+0 +0 flag x2 site 0\n\
+            7 -> 8 clear\n\
+            8 -> 1 enter [ 0 1 2 ] [ ]\n\
+            head 1 in - loop - entry 0 back 8\n",
+        ),
+        // the value of an operator comes to Overflow by a temporary
+        (
+            ALONE,
+            "Word32 y; void frame(void) { Overflow = L_abs(y); }\n",
+            "nodes 8\n\
+            0 in - 1+1+0\n\
+            2 in 0 1+1+0\n\
+            5 in 0 1+2+0\n\
+            6 in 0 1+1+0\n\
+            0 -> 1 enter [ 0 1 ] [ ]\n\
+            1 -> 2 enter [ 0 1 ] [ ]\n\
+            2 -> 3 inputs\n\
+            3 -> 4 count Operator(LAbs)\n\
+            4 -> 5 x2 = LAbs +x0+0 +0 +0 flag x1 site 0\n\
+            5 -> 6 x1 = +x2+0\n\
+            6 -> 7 clear\n\
+            7 -> 1 enter [ 0 1 ] [ ]\n\
+            head 1 in - loop - entry 0 back 7\n",
+        ),
     ];
     for (specification, source, wanted) in rows {
         let drawn = drawing_of(alloc, specification, source, &[])?;

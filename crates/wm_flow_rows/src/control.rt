@@ -370,6 +370,119 @@ fn control(rt: HostRuntime) -> Result<(), Fail> {
             14 -> 1 enter [ 0 2 ] [ ]\n\
             head 1 in - loop - entry 0 back 15\n",
         ),
+        // sides whose difference is a form
+        (
+            ALONE,
+            "Word16 x, y; void frame(void) { if (x - y < 3) y = 0; }\n",
+            "nodes 9\n\
+            0 in - 2+1+0\n\
+            2 in 0 2+1+0\n\
+            0 -> 1 enter [ 0 1 2 ] [ ]\n\
+            1 -> 2 enter [ 0 1 2 ] [ ]\n\
+            2 -> 3 inputs\n\
+            3 -> 4 test +x0-x1+0 in -2147483648..2147483647 Difference +x0+0 +x1+0 site 0\n\
+            4 -> 5 keep +x0-x1-2 AtMost\n\
+            4 -> 7 keep -x0+x1+3 AtMost\n\
+            5 -> 6 x1 = +0\n\
+            6 -> 7 clear\n\
+            7 -> 8 clear\n\
+            8 -> 1 enter [ 0 1 2 ] [ ]\n\
+            head 1 in - loop - entry 0 back 9\n",
+        ),
+        // sides whose difference is none go to temporaries
+        (
+            ALONE,
+            "Word16 x, y, z; void frame(void) { if (x + y <= z + 1) x = 0; }\n",
+            "nodes 12\n\
+            0 in - 3+1+0\n\
+            2 in 0 3+1+0\n\
+            6 in 0 3+2+0\n\
+            7 in 0 3+3+0\n\
+            8 in 0 3+1+0\n\
+            0 -> 1 enter [ 0 1 2 3 ] [ ]\n\
+            1 -> 2 enter [ 0 1 2 3 ] [ ]\n\
+            2 -> 3 inputs\n\
+            3 -> 4 test +x0+x1+0 in -2147483648..2147483647 Sum +x0+0 +x1+0 site 0\n\
+            4 -> 5 test +x2+1 in -2147483648..2147483647 Sum +x2+0 +1 site 1\n\
+            5 -> 6 x4 = +x0+x1+0\n\
+            6 -> 7 x5 = +x2+1\n\
+            7 -> 8 keep +x4-x5+0 AtMost\n\
+            7 -> 10 keep -x4+x5+1 AtMost\n\
+            8 -> 9 x0 = +0\n\
+            9 -> 10 clear\n\
+            10 -> 11 clear\n\
+            11 -> 1 enter [ 0 1 2 3 ] [ ]\n\
+            head 1 in - loop - entry 0 back 12\n",
+        ),
+        // a break and a continue out of a block with a scalar
+        (
+            ALONE,
+            "Word16 x; void frame(void) { Word16 i; for (i = 4; i > 0; i--) { Word16 t = x; if (t) continue; break; } }\n",
+            "nodes 23\n\
+            0 in - 1+1+0\n\
+            2 in 0 3+1+0\n\
+            6 in 0 4+1+0\n\
+            20 in 0 3+1+0\n\
+            0 -> 1 enter [ 0 1 ] [ ]\n\
+            1 -> 2 enter [ 0 - - 1 ] [ ]\n\
+            2 -> 3 inputs\n\
+            3 -> 4 clear x1\n\
+            4 -> 5 x1 = +4\n\
+            5 -> 6 reset x3\n\
+            6 -> 7 keep -x1+1 AtMost\n\
+            6 -> 20 keep +x1+0 AtMost\n\
+            7 -> 8 x2 = +x0+0\n\
+            8 -> 9 keep +x2+0 NotEqual\n\
+            8 -> 12 keep +x2+0 Equal\n\
+            9 -> 10 clear x2\n\
+            10 -> 16 clear\n\
+            11 -> 12 clear\n\
+            12 -> 13 clear x2\n\
+            13 -> 20 clear\n\
+            14 -> 15 clear x2\n\
+            15 -> 16 clear\n\
+            16 -> 17 test +x1-1 in -2147483648..2147483647 Difference +x1+0 +1 site 0\n\
+            17 -> 18 test +x1-1 in -32768..32767 Itself +x1-1 site 1\n\
+            18 -> 19 x1 = +x1-1\n\
+            19 -> 6 turn x3+1\n\
+            20 -> 21 clear x1\n\
+            21 -> 22 clear\n\
+            22 -> 1 enter [ 0 3 ] [ ]\n\
+            head 1 in - loop - entry 0 back 24\n\
+            head 6 in 0 loop 0 entry 5 back 21\n",
+        ),
+        // an addressed parameter has its argument in a temporary before it is written
+        (
+            ALONE,
+            "Word16 x; void set(Word16 *p) { *p = 4; } void up(Word16 k) { set(&k); x = k; } void frame(void) { up(2); }\n",
+            "nodes 16\n\
+            0 in - 1+1+0\n\
+            2 in 0 1+1+0\n\
+            4 in 1 1+2+1\n\
+            5 in 1 1+1+1\n\
+            6 in 2 2+1+1\n\
+            10 in 1 1+1+1\n\
+            11 in 1 1+2+1\n\
+            12 in 1 1+1+1\n\
+            14 in 0 1+1+0\n\
+            0 -> 1 enter [ 0 1 ] [ ]\n\
+            1 -> 2 enter [ 0 1 ] [ ]\n\
+            2 -> 3 inputs\n\
+            3 -> 4 enter [ 0 1 - ] [ - ] x2 = +2\n\
+            4 -> 5 a0 of 1 gets +x2+0\n\
+            5 -> 6 enter [ 0 - 1 ] [ 0 ] x1 = +0\n\
+            6 -> 7 test +x1+0 in 0..0 Itself +x1+0 site 0\n\
+            7 -> 8 a0 of 1 gets +4\n\
+            8 -> 9 clear\n\
+            9 -> 10 leave 5 [ - - ] [ 0 2 ] [ 0 ]\n\
+            10 -> 11 x2 = a0\n\
+            11 -> 12 x0 = +x2+0\n\
+            12 -> 13 clear\n\
+            13 -> 14 leave 3 [ - - ] [ 0 1 ] [ ]\n\
+            14 -> 15 clear\n\
+            15 -> 1 enter [ 0 1 ] [ ]\n\
+            head 1 in - loop - entry 0 back 15\n",
+        ),
     ];
     for (specification, source, wanted) in rows {
         let drawn = drawing_of(alloc, specification, source, &[])?;

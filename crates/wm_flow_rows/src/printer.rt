@@ -59,7 +59,11 @@ fn put_nodes(text: &mut String, graph: &Graph) -> Result<(), Fail> {
     let mut last = None;
     for (node, number) in graph.node_shape.items().iter().enumerate() {
         let instance = *instances.get(node).ok_or("no instance")?;
-        let shape = graph.shapes.items().get(*number as usize).ok_or("no shape")?;
+        let shape = graph
+            .shapes
+            .items()
+            .get(*number as usize)
+            .ok_or("no shape")?;
         let kind = kind_of(instance, shape);
         if last != Some(kind) {
             put_kind(text, node, &kind)?;
@@ -297,7 +301,10 @@ fn put_action(text: &mut String, action: &Action) -> Result<(), Fail> {
             loop_step,
             variable,
             step,
-        } => write!(text, "tie x{counter} by {loop_step} to x{variable} by {step}")?,
+        } => write!(
+            text,
+            "tie x{counter} by {loop_step} to x{variable} by {step}"
+        )?,
         Action::Inputs { scalars, arrays } => {
             write!(text, "inputs")?;
             put_given(text, "x", scalars.items())?;
