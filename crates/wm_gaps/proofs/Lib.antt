@@ -1,1 +1,6 @@
+pub mod Answered
+pub mod Firsts
+pub mod Ordering
 pub mod Passing
+pub mod Walking
+pub mod Whole

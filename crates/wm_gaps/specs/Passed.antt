@@ -1,5 +1,5 @@
 -- Bounds of a state that another one passes, told by points.
-use Rattle.std.specs.Prelude.{ℕ, ℤ, pos, ◌<ℤ◌, int_lt, if◌then◌else◌, Bool, true, false, List, [], ◌∷◌, Option, Some, None, MatchOption}
+use Rattle.std.specs.Prelude.{ℕ, ℤ, pos, ◌<ℤ◌, int_lt, if◌then◌else◌, Bool, true, false, [], ◌∷◌, Option, Some, None, MatchOption}
 use Rattle.wm_interval.specs.declared.Interval.{Interval}
 use Rattle.wm_arrays.specs.declared.summary.Summary.{Summary}
 use Rattle.wm_arrays.specs.declared.summary.Summary.TheVariants.{Empty, Range}

@@ -1,7 +1,8 @@
 // Single lines: whether the numbers of one state on a line pass those of another.
-ghost use Rattle.std.specs.Prelude.{◌≡◌, ◌≢◌, ◌<◌, IfOk, IfSome};
+ghost use Rattle.std.specs.Prelude.{◌≡◌, ◌≢◌, ◌<◌, IfOk};
 ghost use Rattle.wm_domain.specs.States.{count_of, array_count};
-ghost use Rattle.wm_gaps.specs.Passed.{pair_form, cells_in, IsPassed};
+ghost use Rattle.wm_gaps.specs.First.{IsThe, IsAnswer};
+ghost use Rattle.wm_gaps.specs.Passed.{pair_form, cells_in};
 
 use crate::passed::{Passed, passed_on};
 use std::alloc::Global;
@@ -12,11 +13,11 @@ use wm_interval::Interval;
 use wm_ops::{List, NoMemory};
 
 /// The range of a variable.
-#[tactic(auto, using(crate::proofs::Passing::variable_passes))]
+#[tactic(auto, using(crate::proofs::Answered::variable_answer, crate::proofs::Answered::no_value))]
 pub(crate) fn variable_passed<D: Domain>(have: &D, allowed: &D, v: u32) -> Option<Passed>
     requires inside { v < count_of (D.shape_of have.now) }
     requires shape { D.shape_of have.now ≡ D.shape_of allowed.now }
-    ensures { IfSome result (IsPassed (D.holds have.now) (D.holds allowed.now)) }
+    ensures first { IsAnswer (IsThe (Line.Bound v)) (D.holds have.now) (D.holds allowed.now) result }
 {
     match have.range(v) {
         None => None,
@@ -46,7 +47,7 @@ pub(crate) fn pair_form(
 }
 
 /// The range of a difference.
-#[tactic(auto, using(crate::proofs::Passing::difference_passes, crate::proofs::Passing::is_pair))]
+#[tactic(auto, using(crate::proofs::Answered::difference_answer, crate::proofs::Answered::no_difference, crate::proofs::Passing::is_pair))]
 pub(crate) fn difference_passed<D: Domain>(
     alloc: Global,
     have: &D,
@@ -58,7 +59,7 @@ pub(crate) fn difference_passed<D: Domain>(
     requires second { second < count_of (D.shape_of have.now) }
     requires apart { first ≢ second }
     requires shape { D.shape_of have.now ≡ D.shape_of allowed.now }
-    ensures { IfOk result (λ found. IfSome found (IsPassed (D.holds have.now) (D.holds allowed.now))) }
+    ensures first { IfOk result (λ found. IsAnswer (IsThe (Line.Minus first second)) (D.holds have.now) (D.holds allowed.now) found) }
 {
     let form = pair_form(alloc, first, second, true)?;
     match have.form(&form) {
@@ -68,7 +69,7 @@ pub(crate) fn difference_passed<D: Domain>(
 }
 
 /// The range of a sum.
-#[tactic(auto, using(crate::proofs::Passing::sum_passes, crate::proofs::Passing::is_pair))]
+#[tactic(auto, using(crate::proofs::Answered::sum_answer, crate::proofs::Answered::no_sum, crate::proofs::Passing::is_pair))]
 pub(crate) fn sum_passed<D: Domain>(
     alloc: Global,
     have: &D,
@@ -80,7 +81,7 @@ pub(crate) fn sum_passed<D: Domain>(
     requires second { second < count_of (D.shape_of have.now) }
     requires apart { first ≢ second }
     requires shape { D.shape_of have.now ≡ D.shape_of allowed.now }
-    ensures { IfOk result (λ found. IfSome found (IsPassed (D.holds have.now) (D.holds allowed.now))) }
+    ensures first { IfOk result (λ found. IsAnswer (IsThe (Line.Plus first second)) (D.holds have.now) (D.holds allowed.now) found) }
 {
     let form = pair_form(alloc, first, second, false)?;
     match have.form(&form) {
@@ -101,11 +102,11 @@ pub(crate) fn cells(summary: Option<Summary>) -> Option<Interval>
 }
 
 /// The set cells of an array.
-#[tactic(auto, using(crate::proofs::Passing::array_passes))]
+#[tactic(auto, using(crate::proofs::Answered::array_answer, crate::proofs::Answered::no_cell))]
 pub(crate) fn array_passed<D: Domain>(have: &D, allowed: &D, a: u32) -> Option<Passed>
     requires inside { a < array_count (D.shape_of have.now) }
     requires shape { D.shape_of have.now ≡ D.shape_of allowed.now }
-    ensures { IfSome result (IsPassed (D.holds have.now) (D.holds allowed.now)) }
+    ensures first { IsAnswer (IsThe (Line.Array a)) (D.holds have.now) (D.holds allowed.now) result }
 {
     match cells(have.array(a)) {
         None => None,
