@@ -1,2 +1,4 @@
+pub mod Given
+pub mod Steps
 pub mod Tables
 pub mod Walks

@@ -1,1 +1,3 @@
+pub mod Choices
 pub mod Paths
+pub mod Worst

@@ -1,8 +1,14 @@
 // The first of the paths of greatest weight.
 ghost use Rattle.wm_path_laws.specs.Paths.{PicksTheFirst};
+ghost use Rattle.wm_path_laws.specs.Worst.{GivesTheWorst};
 
 /// It does nothing: its contract tells that the edges which are picked are a path to an end, that it weighs what is known at
 /// its beginning, that no path to an end weighs more, and that none of the same weight comes before it in the order of lists.
 pub fn pick_laws()
     ensures picks_the_first { PicksTheFirst }
+{}
+
+/// It does nothing: its contract tells that the choice which `worst_path` gives is the worst choice of a frame.
+pub fn choice_laws()
+    ensures gives_the_worst { GivesTheWorst }
 {}

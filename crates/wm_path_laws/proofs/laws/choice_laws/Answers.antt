@@ -1,0 +1,5 @@
+use Rattle.wm_path_laws.proofs.Given.{gives_the_worst}
+use Rattle.wm_path_laws.proofs.laws.choice_laws.Goals as goal
+
+pub returns : goal.returns
+returns c = record { gives_the_worst = gives_the_worst }
