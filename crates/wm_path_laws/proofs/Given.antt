@@ -1,6 +1,8 @@
 -- The choice that is given is the worst.
 use Rattle.wm_path_laws.specs.Worst.{GivesTheWorst}
-use Rattle.wm_path_laws.proofs.Steps.{goes_of}
+use Rattle.wm_path_laws.proofs.Leading.{led_by, goes}
+use Rattle.wm_path_laws.proofs.Parts.{narrow}
+use Rattle.wm_path_laws.proofs.Added.{turns_at}
 
 pub gives_the_worst : GivesTheWorst
 gives_the_worst = ?hole

@@ -94,14 +94,9 @@ take_ordered first count least zero ways o = tt
 take_ordered first count least (suc k) [] o = tt
 take_ordered first count least (suc k) (w ∷ ws) o = (o.0, o.1, o.2, take_ordered first count w.source k ws o.3)
 
-drop_ordered : (first count least k : ℕ) (ways : List Way) → AreOrdered first count least ways → AreOrdered first count least (drop k ways)
-drop_ordered first count least zero ways o = o
-drop_ordered first count least (suc k) [] o = tt
-drop_ordered first count least (suc k) (w ∷ ws) o = lower first count least w.source (drop k ws) o.0 (drop_ordered first count w.source k ws o.3)
-  where
-    lower : (first count least more : ℕ) (ways : List Way) → least ≤ more → AreOrdered first count more ways → AreOrdered first count least ways
-    lower first count least more [] h o = tt
-    lower first count least more (w ∷ ws) h o = (omega (arith, h, o.0), o.1, o.2, o.3)
+pub lower_ordered : (first count least more : ℕ) (ways : List Way) → least ≤ more → AreOrdered first count more ways → AreOrdered first count least ways
+lower_ordered first count least more [] h o = tt
+lower_ordered first count least more (w ∷ ws) h o = (omega (arith, h, o.0), o.1, o.2, o.3)
 
 -- from an edge on
 pub from_ordered : (first count least k : ℕ) (ways : List Way) (way : Way) → AreOrdered first count least ways → slice_get ways k ≡ Some way → AreOrdered first count way.source (drop k ways)
