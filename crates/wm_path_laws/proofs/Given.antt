@@ -3,6 +3,7 @@ use Rattle.wm_path_laws.specs.Worst.{GivesTheWorst}
 use Rattle.wm_path_laws.proofs.Leading.{led_by, goes}
 use Rattle.wm_path_laws.proofs.Parts.{narrow}
 use Rattle.wm_path_laws.proofs.Added.{turns_at}
+use Rattle.wm_path_laws.proofs.Marks.{turns_bounded}
 
 pub gives_the_worst : GivesTheWorst
 gives_the_worst = ?hole
