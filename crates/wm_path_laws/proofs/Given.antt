@@ -4,6 +4,7 @@ use Rattle.wm_path_laws.proofs.Leading.{led_by, goes}
 use Rattle.wm_path_laws.proofs.Parts.{narrow}
 use Rattle.wm_path_laws.proofs.Added.{turns_at}
 use Rattle.wm_path_laws.proofs.Marks.{turns_bounded}
+use Rattle.wm_path_laws.proofs.Routes.{picks}
 
 pub gives_the_worst : GivesTheWorst
 gives_the_worst = ?hole

@@ -3,6 +3,7 @@ pub mod Given
 pub mod Leading
 pub mod Marks
 pub mod Parts
+pub mod Routes
 pub mod Steps
 pub mod Tables
 pub mod Walks

@@ -15,7 +15,7 @@ use Rattle.wm_path_laws.proofs.Tables.{uncut, uncut_least, some_is, none_is_not,
 -- ---- paths
 
 -- a path over edges is one whose numbers are left out
-leads : (added : List ℕ) (number : ℕ) (ways : List Way) (from : ℕ) (numbers : List ℕ) (to weight : ℕ) → Goes added number ways from numbers to weight → Leads added ways from to weight
+pub leads : (added : List ℕ) (number : ℕ) (ways : List Way) (from : ℕ) (numbers : List ℕ) (to weight : ℕ) → Goes added number ways from numbers to weight → Leads added ways from to weight
 leads added number [] from numbers to weight h = (h.0, h.2)
 leads added number (way ∷ ways) from numbers to weight (inl h) = inl (leads added (suc number) ways from numbers to weight h)
 leads added number (way ∷ ways) from numbers to weight (inr h) =
@@ -108,7 +108,7 @@ past_goes first count added number at least (way ∷ ways) numbers to weight o h
     past_goes first count added (suc number) at way.source ways numbers to weight o.3 (omega (arith, o.0, h)) g
 past_goes first count added number at least (way ∷ ways) numbers to weight o h (inr g) = absurd (omega (arith, o.0, h, g.1))
 
-inside_of : (first count least : ℕ) (ways : List Way) → AreOrdered first count least ways → AreInside first count ways
+pub inside_of : (first count least : ℕ) (ways : List Way) → AreOrdered first count least ways → AreInside first count ways
 inside_of first count least [] o = tt
 inside_of first count least (way ∷ ways) o = (o.1, inside_of first count way.source ways o.3)
 

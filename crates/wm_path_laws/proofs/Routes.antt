@@ -1,0 +1,106 @@
+-- Paths from a node to ends, by the part of the edges over which they lead.
+use Rattle.std.proofs.Common.{◌≡◌, ◌≢◌, ℕ, zero, suc, ◌+◌, ◌-◌, ◌<◌, ◌≤◌, ◌⊎◌, inl, inr, ⊎_elim, Bool, true, false, List, [], ◌∷◌, length, get_or, Option, Some, None, refl, ap, sym, ◌∙◌, subst, arith}
+use Rattle.std.proofs.lemmas.Bool.{cases_eq}
+use Rattle.std.proofs.lemmas.Option.{none-some, same_Some}
+use Rattle.wm_ways.proofs.Paths.{no_path_weighs_more}
+use Rattle.wm_ways.specs.declared.ways.Way.{Way}
+use Rattle.wm_ways.specs.Numbers.{cut, along, greater}
+use Rattle.wm_ways.specs.Paths.{IsAtLeast}
+use Rattle.wm_ways.specs.Sweeps.{best_at, onward, relaxed, swept}
+use Rattle.wm_path.specs.Picks.{picked}
+use Rattle.wm_path_laws.specs.Choices.{IsLaidOut, Setting, Leads}
+use Rattle.wm_path_laws.specs.Paths.{Goes, AreOrdered, AreEnds, IsNotAfter}
+use Rattle.wm_path_laws.proofs.Leading.{ways_of, way_weight, goes, led_by}
+use Rattle.wm_path_laws.proofs.Tables.{length_swept, unmoved, closed_at, moved}
+use Rattle.wm_path_laws.proofs.Walks.{leads, inside_of, picks_the_first}
+
+-- ---- where something is known a path leads to an end
+
+abbrev pub Reaches : (added : List ℕ) → (number : ℕ) → List Way → (first : ℕ) → (ending : List (Option ℕ)) → (from : ℕ) → Type 0
+Reaches added number ways first ending from =
+    (numbers : List ℕ) × (to : ℕ) × (weight : ℕ) × (known : ℕ) × Goes added number ways from numbers to weight × (best_at first ending to ≡ Some known)
+
+left_out : (added : List ℕ) (number : ℕ) (way : Way) (ways : List Way) (first : ℕ) (ending : List (Option ℕ)) (from : ℕ) → Reaches added (suc number) ways first ending from → Reaches added number (way ∷ ways) first ending from
+left_out added number way ways first ending from r = (r.0, r.1, r.2, r.3, inl r.4, r.5)
+
+taken : (added : List ℕ) (number : ℕ) (way : Way) (ways : List Way) (first : ℕ) (ending : List (Option ℕ)) (from : ℕ) → way.open ≡ true → from ≡ way.source → Reaches added (suc number) ways first ending way.target → Reaches added number (way ∷ ways) first ending from
+taken added number way ways first ending from is_open here r =
+    (number ∷ r.0, r.1, way.weight + get_or added way.target 0 + r.2, r.3, inr (is_open, here, (r.0, r.2, r.4, refl, refl)), r.5)
+
+one_of : {P : Type 0} (a : Option ℕ) (weight added : ℕ) (rest : Option ℕ) (v : ℕ) → greater a (along weight added rest) ≡ Some v → ((v : ℕ) → a ≡ Some v → P) → ((v : ℕ) → rest ≡ Some v → P) → P
+one_of None weight added None v e here there = absurd (none-some v e)
+one_of None weight added (Some r) v e here there = there r refl
+one_of (Some a) weight added rest v e here there = here a refl
+
+pub reaches : (first count least : ℕ) (added : List ℕ) (number : ℕ) (ways : List Way) (ending : List (Option ℕ)) (from v : ℕ) → AreOrdered first (length ending) least ways → first ≤ least → first ≤ from → best_at first (swept first added ways ending) from ≡ Some v → Reaches added number ways first ending from
+reaches first count least added number [] ending from v o fl ff e = ([], from, 0, v, (refl, refl, refl), e)
+reaches first count least added number (w ∷ ws) ending from v o fl ff e =
+    by_source (cases_eq from w.source) w.open refl
+    (λ from' v' ff' e'. reaches first count w.source added (suc number) ws ending from' v' o.3 (omega (arith, fl, o.0)) ff' e')
+  where
+    table : List (Option ℕ)
+    table = swept first added ws ending
+    by_source : (from ≡ w.source) ⊎ (from ≡ w.source → ⊥) → (b : Bool) → w.open ≡ b → ((from' v' : ℕ) → first ≤ from' → best_at first (swept first added ws ending) from' ≡ Some v' → Reaches added (suc number) ws first ending from') → Reaches added number (w ∷ ws) first ending from
+    by_source (inr ne) b is behind =
+        let apart : from - first ≢ w.source - first = omega (arith, ne, ff, fl, o.0) in
+        left_out added number w ws first ending from (behind from v ff (sym (unmoved first added w (swept first added ws ending) from apart) ∙ e))
+    by_source (inl here) false is behind =
+        left_out added number w ws first ending from (behind from v ff (sym (closed_at first added w (swept first added ws ending) from is) ∙ e))
+    by_source (inl here) true is behind =
+        let up : w.source < w.target = o.2 is in
+        let known : greater (best_at first (swept first added ws ending) w.source) (along w.weight (get_or added w.target 0) (best_at first (swept first added ws ending) w.target)) ≡ Some v =
+        sym (moved first added w (swept first added ws ending) is (subst (λ (n : ℕ). w.source - first < n) (sym (length_swept first added ws ending)) o.1))
+        ∙ ap (best_at first (swept first added (w ∷ ws) ending)) (sym here) ∙ e in
+        one_of (best_at first (swept first added ws ending) w.source) w.weight (get_or added w.target 0) (best_at first (swept first added ws ending) w.target) v known
+        (λ v' e'. left_out added number w ws first ending from (behind from v' ff (ap (best_at first (swept first added ws ending)) here ∙ e')))
+        (λ v' e'. taken added number w ws first ending from is here (behind w.target v' (omega (arith, up, here, ff)) e'))
+
+-- ---- paths from a node to ends lead over a part of the edges
+
+pub record Route (s : Setting) (added : List ℕ) (from : ℕ) (IsEnd : ℕ → Type 0) (number : ℕ) (part : List Way) (ending : List (Option ℕ)) : Type 0 where
+  pub ordered : AreOrdered from (length ending) from part
+  pub ends : AreEnds from ending
+  pub into : (numbers : List ℕ) (to weight : ℕ) → IsEnd to → Goes added 0 (ways_of s) from numbers to weight → Goes added number part from numbers to weight × (best_at from ending to ≡ Some 0)
+  pub out : (numbers : List ℕ) (to weight known : ℕ) → Goes added number part from numbers to weight → best_at from ending to ≡ Some known → IsEnd to × Goes added 0 (ways_of s) from numbers to weight
+
+-- the list of edges that is picked
+pub record IsPicked (s : Setting) (added : List ℕ) (from : ℕ) (IsEnd : ℕ → Type 0) (known : ℕ) (numbers : List ℕ) : Type 0 where
+  pub to : ℕ
+  pub ends : IsEnd to
+  pub leads : Leads s from numbers to
+  pub weighs : way_weight added s numbers ≡ known
+  pub greatest : (other : List ℕ) (end : ℕ) → IsEnd end → Leads s from other end → way_weight added s other ≤ known
+  pub before : (other : List ℕ) (end : ℕ) → IsEnd end → Leads s from other end → way_weight added s other ≡ known → IsNotAfter numbers other
+
+module _ (s : Setting) (laid : IsLaidOut s.graph) (added : List ℕ) (from : ℕ) (IsEnd : ℕ → Type 0) (number : ℕ) (part : List Way) (ending : List (Option ℕ)) (route : Route s added from IsEnd number part ending) where
+  pub at_least : (numbers : List ℕ) (to : ℕ) → IsEnd to → Leads s from numbers to → IsAtLeast (cut (way_weight added s numbers)) (best_at from (swept from added part ending) from)
+  at_least numbers to end l =
+      let g = route.into numbers to (way_weight added s numbers) end (goes added s from numbers to laid l) in
+      let same : way_weight added s numbers + 0 ≡ way_weight added s numbers = omega arith in
+      subst (λ (n : ℕ). IsAtLeast (cut n) (best_at from (swept from added part ending) from)) same
+      (no_path_weighs_more from added part ending from to (way_weight added s numbers) 0 (inside_of from (length ending) from part route.ordered)
+      (leads added number part from numbers to (way_weight added s numbers) g.0) g.1)
+
+  pub leads_on : (v : ℕ) → best_at from (swept from added part ending) from ≡ Some v → ((numbers : List ℕ) × (to : ℕ) × IsEnd to × Leads s from numbers to)
+  leads_on v e =
+      let r = reaches from 0 from added number part ending from v route.ordered (omega arith) (omega arith) e in
+      let g = route.out r.0 r.1 r.2 r.3 r.4 r.5 in
+      (r.0, r.1, g.0, (led_by added s from r.0 r.1 r.2 laid g.1).0)
+
+  pub picks : (known : ℕ) → best_at from (swept from added part ending) from ≡ Some known → known ≤ 1000000000000000 → IsPicked s added from IsEnd known (picked from added (swept from added part ending) ending number from part)
+  picks known e small =
+      let p = picks_the_first from added part ending number from known route.ordered route.ends (omega arith) e small in
+      let g = route.out (picked from added (swept from added part ending) ending number from part) p.1.to known 0 p.1.goes p.1.ends in
+      let l = led_by added s from (picked from added (swept from added part ending) ending number from part) p.1.to known laid g.1 in
+      record {
+        to = p.1.to;
+        ends = g.0;
+        leads = l.0;
+        weighs = sym l.1;
+        greatest = λ other end is l'.
+          let h = route.into other end (way_weight added s other) is (goes added s from other end laid l') in
+          p.0 other end (way_weight added s other) h.0 h.1;
+        before = λ other end is l' w.
+          let h = route.into other end (way_weight added s other) is (goes added s from other end laid l') in
+          p.1.before other end (subst (λ (n : ℕ). Goes added number part from other end n) w h.0) h.1;
+      }
