@@ -5,6 +5,7 @@ use Rattle.wm_path_laws.proofs.Parts.{narrow}
 use Rattle.wm_path_laws.proofs.Added.{turns_at}
 use Rattle.wm_path_laws.proofs.Marks.{turns_bounded}
 use Rattle.wm_path_laws.proofs.Routes.{picks}
+use Rattle.wm_path_laws.proofs.Loops.{through}
 
 pub gives_the_worst : GivesTheWorst
 gives_the_worst = ?hole

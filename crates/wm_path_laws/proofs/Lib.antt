@@ -1,6 +1,7 @@
 pub mod Added
 pub mod Given
 pub mod Leading
+pub mod Loops
 pub mod Marks
 pub mod Parts
 pub mod Routes

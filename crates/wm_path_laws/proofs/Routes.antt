@@ -32,14 +32,12 @@ one_of None weight added None v e here there = absurd (none-some v e)
 one_of None weight added (Some r) v e here there = there r refl
 one_of (Some a) weight added rest v e here there = here a refl
 
-pub reaches : (first count least : ℕ) (added : List ℕ) (number : ℕ) (ways : List Way) (ending : List (Option ℕ)) (from v : ℕ) → AreOrdered first (length ending) least ways → first ≤ least → first ≤ from → best_at first (swept first added ways ending) from ≡ Some v → Reaches added number ways first ending from
-reaches first count least added number [] ending from v o fl ff e = ([], from, 0, v, (refl, refl, refl), e)
-reaches first count least added number (w ∷ ws) ending from v o fl ff e =
+pub reaches : (first least : ℕ) (added : List ℕ) (number : ℕ) (ways : List Way) (ending : List (Option ℕ)) (from v : ℕ) → AreOrdered first (length ending) least ways → first ≤ least → first ≤ from → best_at first (swept first added ways ending) from ≡ Some v → Reaches added number ways first ending from
+reaches first least added number [] ending from v o fl ff e = ([], from, 0, v, (refl, refl, refl), e)
+reaches first least added number (w ∷ ws) ending from v o fl ff e =
     by_source (cases_eq from w.source) w.open refl
-    (λ from' v' ff' e'. reaches first count w.source added (suc number) ws ending from' v' o.3 (omega (arith, fl, o.0)) ff' e')
+    (λ from' v' ff' e'. reaches first w.source added (suc number) ws ending from' v' o.3 (omega (arith, fl, o.0)) ff' e')
   where
-    table : List (Option ℕ)
-    table = swept first added ws ending
     by_source : (from ≡ w.source) ⊎ (from ≡ w.source → ⊥) → (b : Bool) → w.open ≡ b → ((from' v' : ℕ) → first ≤ from' → best_at first (swept first added ws ending) from' ≡ Some v' → Reaches added (suc number) ws first ending from') → Reaches added number (w ∷ ws) first ending from
     by_source (inr ne) b is behind =
         let apart : from - first ≢ w.source - first = omega (arith, ne, ff, fl, o.0) in
@@ -83,7 +81,7 @@ module _ (s : Setting) (laid : IsLaidOut s.graph) (added : List ℕ) (from : ℕ
 
   pub leads_on : (v : ℕ) → best_at from (swept from added part ending) from ≡ Some v → ((numbers : List ℕ) × (to : ℕ) × IsEnd to × Leads s from numbers to)
   leads_on v e =
-      let r = reaches from 0 from added number part ending from v route.ordered (omega arith) (omega arith) e in
+      let r = reaches from from added number part ending from v route.ordered (omega arith) (omega arith) e in
       let g = route.out r.0 r.1 r.2 r.3 r.4 r.5 in
       (r.0, r.1, g.0, (led_by added s from r.0 r.1 r.2 laid g.1).0)
 
