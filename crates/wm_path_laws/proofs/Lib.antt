@@ -3,6 +3,7 @@ pub mod Given
 pub mod Leading
 pub mod Loops
 pub mod Marks
+pub mod Others
 pub mod Parts
 pub mod Routes
 pub mod Steps
