@@ -7,6 +7,7 @@ use Rattle.wm_path_laws.proofs.Marks.{turns_bounded}
 use Rattle.wm_path_laws.proofs.Routes.{picks}
 use Rattle.wm_path_laws.proofs.Loops.{through}
 use Rattle.wm_path_laws.proofs.Others.{below}
+use Rattle.wm_path_laws.proofs.Chosen.{lists_stand}
 
 pub gives_the_worst : GivesTheWorst
 gives_the_worst = ?hole

@@ -1,4 +1,5 @@
 pub mod Added
+pub mod Chosen
 pub mod Given
 pub mod Leading
 pub mod Loops
