@@ -1,5 +1,5 @@
 -- The choices that are picked are the worst: that of a path with the choices of the turns of the loops on it.
-use Rattle.std.proofs.Common.{◌≡◌, ◌≢◌, ℕ, zero, suc, ◌+◌, ◌-◌, ◌*◌, ◌<◌, ◌≤◌, ◌⊎◌, inl, inr, ⊎_elim, false, List, [], ◌∷◌, ◌++◌, length, get_or, map, min, Option, Some, None, refl, ap, sym, ◌∙◌, subst, arith}
+use Rattle.std.proofs.Common.{◌≡◌, ◌≢◌, ℕ, zero, suc, ◌+◌, ◌*◌, ◌<◌, ◌≤◌, inl, inr, ⊎_elim, false, List, [], ◌∷◌, ◌++◌, length, get_or, map, min, Option, Some, None, refl, ap, sym, ◌∙◌, subst, arith}
 use Rattle.std.specs.Prelude.{slice_get}
 use Rattle.std.proofs.lemmas.Option.{none-some, same_Some}
 use Rattle.wm_cost.specs.Edges.{way_of}
@@ -16,7 +16,7 @@ use Rattle.wm_path.specs.declared.choice.Body.{Body}
 use Rattle.wm_path.specs.declared.choice.Choice.{Choice}
 use Rattle.wm_path.specs.declared.choice.Choice.TheViews.{out-Choice, out-roll-Choice}
 use Rattle.wm_path.specs.declared.choice.Choice.TheOpen.{Choice-F}
-use Rattle.wm_path_laws.specs.Choices.{IsLaidOut, IsLive, Setting, IsLoop, IsThrough, Leads, Meets, IsTurn, AreTurns, IsWithin, last_of, edge_weight, edges_weight, turns_weight, weight_of}
+use Rattle.wm_path_laws.specs.Choices.{IsLaidOut, IsLive, Setting, IsLoop, Leads, Meets, AreTurns, IsWithin, last_of, edge_weight, edges_weight, turns_weight, weight_of}
 use Rattle.wm_path_laws.specs.Paths.{IsNotAfter}
 use Rattle.wm_path_laws.specs.Worst.{IsFirstOfGreatest, AreWorst, IsWorstWithin, EachTurns}
 use Rattle.wm_path_laws.proofs.Leading.{target_in, target_is, way_at, ways_of, way_weight}
@@ -38,10 +38,10 @@ exact w x known h k small e =
 
 -- ---- a choice by its parts
 
-edges_of : (edges : List ℕ) (bodies : List (Body Choice)) → (out-Choice (choice_with edges bodies)).edges ≡ edges
+pub edges_of : (edges : List ℕ) (bodies : List (Body Choice)) → (out-Choice (choice_with edges bodies)).edges ≡ edges
 edges_of edges bodies = ap (λ (it : Choice-F Choice). it.edges) (out-roll-Choice (record { edges = edges; bodies = bodies }))
 
-bodies_are : (edges : List ℕ) (bodies : List (Body Choice)) → (out-Choice (choice_with edges bodies)).bodies ≡ bodies
+pub bodies_are : (edges : List ℕ) (bodies : List (Body Choice)) → (out-Choice (choice_with edges bodies)).bodies ≡ bodies
 bodies_are edges bodies = ap (λ (it : Choice-F Choice). it.bodies) (out-roll-Choice (record { edges = edges; bodies = bodies }))
 
 pub weight_with : (s : Setting) (edges : List ℕ) (bodies : List (Body Choice)) → weight_of s (choice_with edges bodies) ≡ edges_weight s edges + turns_weight (map (weighed s) bodies)
@@ -50,14 +50,14 @@ weight_with s edges bodies =
     ∙ ap (λ (es : List ℕ). edges_weight s es + turns_weight (map (weighed s) (out-Choice (choice_with edges bodies)).bodies)) (edges_of edges bodies)
     ∙ ap (λ (bs : List (Body Choice)). edges_weight s edges + turns_weight (map (weighed s) bs)) (bodies_are edges bodies)
 
-no_bodies : (levels : ℕ) (s : Setting) (count : ℕ) (edges : List ℕ) → levels ≡ 0 → bodies_of levels (field s count) edges ≡ []
-unfolding bodies_of
-no_bodies zero s count edges e = refl
-no_bodies (suc levels) s count edges e = absurd (omega (arith, e))
-
 more_bodies : (levels : ℕ) (s : Setting) (count : ℕ) (edges : List ℕ) → bodies_by (turn_of (bodies_of levels (field s count)) (field s count)) (field s count) edges ≡ bodies_of (suc levels) (field s count) edges
 unfolding bodies_of
 more_bodies levels s count edges = refl
+
+pub nothing_on : (levels : ℕ) (s : Setting) (count : ℕ) → bodies_of levels (field s count) [] ≡ []
+unfolding bodies_of
+nothing_on zero s count = refl
+nothing_on (suc levels) s count = refl
 
 -- what stands of the bodies of a list of edges
 pub record Stands (levels : ℕ) (s : Setting) (count : ℕ) (edges : List ℕ) (bodies : List (Body Choice)) : Type 0 where
@@ -84,27 +84,30 @@ module _ (s : Setting) (count : ℕ) (laid : IsLaidOut s.graph) (counted : count
         weighs = weighs;
       }
     where
-      choice : Choice
-      choice = choice_with edges bodies
       weighs : weight_of s (choice_with edges bodies) ≡ known
       weighs = weight_with s edges bodies ∙ stands.weighs ∙ p.weighs
+
       within : IsWithin (suc levels) s from p.to (choice_with edges bodies)
-      within =
-          (subst (λ (es : List ℕ). Leads s from es p.to) (sym (edges_of edges bodies)) p.leads,
-          subst (λ (es : List ℕ). AreTurns (IsWithin levels s) s es (out-Choice (choice_with edges bodies)).bodies) (sym (edges_of edges bodies))
-          (subst (AreTurns (IsWithin levels s) s edges) (sym (bodies_are edges bodies)) stands.turns))
+      within = (
+        subst (λ (es : List ℕ). Leads s from es p.to) (sym (edges_of edges bodies)) p.leads,
+        subst (λ (es : List ℕ). AreTurns (IsWithin levels s) s es (out-Choice (choice_with edges bodies)).bodies) (sym (edges_of edges bodies))
+            (subst (AreTurns (IsWithin levels s) s edges) (sym (bodies_are edges bodies)) stands.turns),
+      )
+
       greatest : (other : Choice) (end : ℕ) → IsEnd end → (levels : ℕ) × IsWithin levels s from end other → weight_of s other ≤ weight_of s (choice_with edges bodies)
       greatest other end is w =
           let b = below s count laid counted w.0 from end other w.1 in
           let l : way_weight (added s count) s (out-Choice other).edges ≤ known = p.greatest (out-Choice other).edges end is b.1 in
           let u : weight_of s other ≤ known = under (weight_of s other) (way_weight (added s count) s (out-Choice other).edges) known b.0 l small in
           omega (arith, u, weighs)
+
       before : (other : Choice) (end : ℕ) → IsEnd end → (levels : ℕ) × IsWithin levels s from end other → weight_of s other ≡ weight_of s (choice_with edges bodies) → IsNotAfter (out-Choice (choice_with edges bodies)).edges (out-Choice other).edges
       before other end is w same =
           let b = below s count laid counted w.0 from end other w.1 in
           let l : way_weight (added s count) s (out-Choice other).edges ≤ known = p.greatest (out-Choice other).edges end is b.1 in
           subst (λ (es : List ℕ). IsNotAfter es (out-Choice other).edges) (sym (edges_of edges bodies))
           (p.before (out-Choice other).edges end is b.1 (exact (weight_of s other) (way_weight (added s count) s (out-Choice other).edges) known b.0 l small (same ∙ weighs)))
+
       first : IsFirstOfGreatest s from IsEnd (choice_with edges bodies)
       first = record { to = p.to; ends = p.ends; is = (suc levels, within); greatest = greatest; before = before }
 
@@ -174,21 +177,29 @@ module _ (s : Setting) (count : ℕ) (laid : IsLaidOut s.graph) (counted : count
       no_loop : get_or (marks s count) l.0.target None ≡ None → Stands (suc levels) s count (number ∷ edges) bodies
       no_loop none =
           nothing (ap (λ (o : Option Edge). get_or (added s count) (target_in o) 0) l.1 ∙ added_none s count laid counted l.0.target none)
-          (inl ((λ k head m.
-          let place : l.0.target ≡ head.node = node_is k head m in
-          let t = bounded k head m.2 (omega (arith, up, place, low, l.4)) (entered k head m) in
-          none-some (turning_for s.graph.edges head t.0) (sym none ∙ ap (λ (n : ℕ). get_or (marks s count) n None) place ∙ mark_of s count laid counted k head t.0 m.2 t.1)), rest.turns))
+          (inl (
+            (λ k head m.
+                let place : l.0.target ≡ head.node = node_is k head m in
+                let t = bounded k head m.2 (omega (arith, up, place, low, l.4)) (entered k head m) in
+                none-some (turning_for s.graph.edges head t.0) (sym none ∙ ap (λ (n : ℕ). get_or (marks s count) n None) place ∙ mark_of s count laid counted k head t.0 m.2 t.1)),
+            rest.turns,
+          ))
 
       module _ (k : ℕ) (head : Head) (n : ℕ) (m : Meets s number k head) (turns : get_or s.facts.turns k None ≡ Some n) where
-        t : Turning
-        t = turning_for s.graph.edges head n
-
         idle : best_at head.node (table_of (field s count) (turning_for s.graph.edges head n)) head.node ≡ None → Stands (suc levels) s count (number ∷ edges) bodies
         idle none =
             nothing (added_behind s count laid counted number k head n m turns ∙ ap (λ (o : Option ℕ). cut (n * or_nought o)) none ∙ nought n)
-            (inr (inl ((k, head, m, λ way thr.
-            subst (IsAtLeast (cut (way_weight (added s count) s way))) none
-            (at_least s laid (added s count) head.node (λ node. node ≡ last_of s head) (get_or (firsts s count) head.node 0) (inside (field s count) (turning_for s.graph.edges head n)) (ending_at head.node (last_of s head)) (through s count laid counted k head n m.2.0) way (last_of s head) refl thr)), rest.turns)))
+            (inr (inl (
+              (
+                k,
+                head,
+                m,
+                λ way thr.
+                    subst (IsAtLeast (cut (way_weight (added s count) s way))) none
+                    (at_least s laid (added s count) head.node (λ node. node ≡ last_of s head) (get_or (firsts s count) head.node 0) (inside (field s count) (turning_for s.graph.edges head n)) (ending_at head.node (last_of s head)) (through s count laid counted k head n m.2.0) way (last_of s head) refl thr),
+              ),
+              rest.turns,
+            )))
           where
             nought : (n : ℕ) → cut (n * 0) ≡ 0
             nought n =
@@ -210,29 +221,36 @@ module _ (s : Setting) (count : ℕ) (laid : IsLaidOut s.graph) (counted : count
               turns = inr (inr (k, head, body, bodies, m, refl, (is_head, turns, subst (λ (node : ℕ). IsWithin (suc levels) s head.node node body.choice) c.ends c.within), rest.turns));
               worst = ((head, ap (slice_get s.graph.heads) is_head ∙ m.2.0, c.worst), rest.worst);
               weighs = together (edge_weight s number) (edges_weight s edges) (n * weight_of s body.choice) (turns_weight (map (weighed s) bodies)) (n * known) (way_weight (added s count) s edges) (way_weight (added s count) s (number ∷ edges))
-                (ap (λ (w : ℕ). n * w) c.weighs) rest.weighs (weight_here (n * known) (adds ∙ sym whole.0));
+                  (ap (λ (w : ℕ). n * w) c.weighs) rest.weighs (weight_here (n * known) (adds ∙ sym whole.0));
             }
           where
             l' : (way : List ℕ) × (end : ℕ) × (end ≡ last_of s head) × Leads s head.node way end
             l' = leads_on s laid (added s count) head.node (λ node. node ≡ last_of s head) (get_or (firsts s count) head.node 0) (inside (field s count) (turning_for s.graph.edges head n)) (ending_at head.node (last_of s head)) (through s count laid counted k head n m.2.0) known e
+
             adds : get_or (added s count) (target_in (slice_get s.graph.edges number)) 0 ≡ cut (n * known)
             adds = added_behind s count laid counted number k head n m turns ∙ ap (λ (o : Option ℕ). cut (n * or_nought o)) e
+
             some_turn : n ≢ 0
             some_turn z = each_turns k head m.2 (entered k head m) l'.0 (subst (Leads s head.node l'.0) l'.2 l'.3) (turns ∙ ap Some z)
+
             whole : (n * known ≡ cut (n * known)) × (known ≤ 1000000000000000)
             whole = one_turn known some_turn (in_all (edge_weight s number) (get_or (added s count) (target_in (slice_get s.graph.edges number)) 0) (way_weight (added s count) s edges) (cut (n * known)) adds small)
               where
                 in_all : (e a z c : ℕ) → a ≡ c → e + a + z ≤ 1000000000000000 → c ≤ 1000000000000000
                 in_all e a z c p h = omega (arith, p, h)
+
             c : IsChosen (suc levels) s head.node (λ node. node ≡ last_of s head) known
                 (choice_with (turn_edges (field s count) (turning_for s.graph.edges head n) (table_of (field s count) (turning_for s.graph.edges head n)))
                 (bodies_of levels (field s count) (turn_edges (field s count) (turning_for s.graph.edges head n) (table_of (field s count) (turning_for s.graph.edges head n)))))
             c = turn k head n known m.2 turns (omega (arith, node_is k head m, up, low, l.4)) (omega (arith, node_is k head m, up, deep, l.4)) e whole.1
+
             body : Body Choice
             body = body_with (field s count) (turning_for s.graph.edges head n) (turn_edges (field s count) (turning_for s.graph.edges head n) (table_of (field s count) (turning_for s.graph.edges head n)))
                 (bodies_of levels (field s count) (turn_edges (field s count) (turning_for s.graph.edges head n) (table_of (field s count) (turning_for s.graph.edges head n))))
+
             is_head : get_or (numbers s count) head.node 0 ≡ k
             is_head = number_of s count laid counted k head m.2.0
+
             together : (e x tb y tk z whole : ℕ) → tb ≡ tk → x + y ≡ z → whole ≡ e + tk + z → e + x + (tb + y) ≡ whole
             together e x tb y tk z whole p q r = omega (arith, p, q, r)
 
@@ -267,7 +285,7 @@ module _ (s : Setting) (count : ℕ) (laid : IsLaidOut s.graph) (counted : count
 
     pub lists_stand : (levels : ℕ) → ListsStand levels
     lists_stand zero from [] to l low deep small =
-        subst (Stands zero s count []) (sym (no_bodies zero s count [] refl)) (record { turns = refl; worst = tt; weighs = refl })
+        subst (Stands zero s count []) (sym (nothing_on zero s count)) (record { turns = refl; worst = tt; weighs = refl })
     lists_stand zero from (number ∷ edges) to l low deep small =
         let inside_it : l.0.source < length s.graph.node_shape = (laid.among number l.0 l.1).0 in
         absurd (omega (arith, inside_it, counted, deep, l.4))

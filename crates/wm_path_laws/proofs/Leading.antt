@@ -1,14 +1,12 @@
 -- Lists of live edges as paths over the edges of a graph.
-use Rattle.std.proofs.Common.{◌≡◌, ◌≢◌, ℕ, zero, suc, ◌+◌, ◌-◌, ◌<◌, ◌≤◌, ◌⊎◌, inl, inr, Bool, true, false, List, [], ◌∷◌, length, get_or, Option, Some, None, refl, ap, sym, ◌∙◌, subst, arith}
+use Rattle.std.proofs.Common.{◌≡◌, ℕ, zero, suc, ◌+◌, ◌<◌, ◌≤◌, Bool, true, false, List, [], ◌∷◌, length, get_or, Option, Some, None, refl, ap, sym, ◌∙◌, subst, arith}
 use Rattle.std.specs.Prelude.{◌&&◌, nat_lt, slice_get}
 use Rattle.std.proofs.lemmas.Bool.{and_from, and_parts, lt-ltb, ltb-true}
 use Rattle.std.proofs.lemmas.Option.{none-some, same_Some}
 use Rattle.wm_cost.specs.Edges.{word_of, word_weight, way_of, ways_from}
 use Rattle.wm_flow.specs.declared.graph.Edge.{Edge}
-use Rattle.wm_flow.specs.declared.graph.Graph.{Graph}
-use Rattle.wm_flow.specs.declared.graph.Head.{Head}
 use Rattle.wm_ways.specs.declared.ways.Way.{Way}
-use Rattle.wm_path_laws.specs.Choices.{IsLaidOut, IsNoBack, IsLive, Setting, Leads, edge_weight, edges_weight, word_in}
+use Rattle.wm_path_laws.specs.Choices.{IsLaidOut, IsNoBack, IsLive, Setting, Leads, edge_weight, word_in}
 use Rattle.wm_path_laws.specs.Paths.{Goes, AreOrdered}
 use Rattle.wm_path_laws.proofs.Steps.{Walks, goes_of, walks_of}
 
@@ -70,13 +68,15 @@ ordered_from weights live count least number (edge ∷ rest) sorted inside low =
     let here : (way_of weights (get_or live number false) edge).source ≡ edge.source = source_is weights (get_or live number false) edge in
     let there : (way_of weights (get_or live number false) edge).target ≡ edge.target = target_is weights (get_or live number false) edge in
     let low_here : least ≤ edge.source = low 0 edge refl in
-    let inside_here : edge.source < count = inside 0 edge refl in
-    (omega (arith, here, low_here), omega (arith, here, inside_here),
-    (λ e. let up : edge.source < edge.target = (open_tells weights (get_or live number false) edge e).1 in omega (arith, here, there, up)),
-    subst (λ (n : ℕ). AreOrdered 0 count n (ways_from weights live (suc number) rest)) (sym here)
-    (ordered_from weights live count edge.source (suc number) rest
-    (λ i j a b h p q. sorted (suc i) (suc j) a b (omega (arith, h)) p q) (λ i a p. inside (suc i) a p)
-    (λ i a p. sorted 0 (suc i) edge a (omega arith) refl p)))
+    let inside_here : edge.source < count = inside 0 edge refl in (
+      omega (arith, here, low_here),
+      omega (arith, here, inside_here),
+      (λ e. let up : edge.source < edge.target = (open_tells weights (get_or live number false) edge e).1 in omega (arith, here, there, up)),
+      subst (λ (n : ℕ). AreOrdered 0 count n (ways_from weights live (suc number) rest)) (sym here)
+          (ordered_from weights live count edge.source (suc number) rest
+          (λ i j a b h p q. sorted (suc i) (suc j) a b (omega (arith, h)) p q) (λ i a p. inside (suc i) a p)
+          (λ i a p. sorted 0 (suc i) edge a (omega arith) refl p)),
+    )
 
 abbrev pub ways_of : Setting → List Way
 ways_of s = ways_from s.weights s.facts.live 0 s.graph.edges
@@ -149,9 +149,17 @@ led added s from (n ∷ numbers) to weight laid g =
     ∙ ap (λ (m : ℕ). m + get_or added g.1.target 0 + g.2) weighed
     ∙ ap (λ (m : ℕ). word_weight s.weights (word_of found.0.action) + get_or added m 0 + g.2) there
     ∙ ap (λ (m : ℕ). word_weight s.weights (word_of found.0.action) + get_or added found.0.target 0 + m) rest.1
-    ∙ ap (λ (o : Option Edge). word_weight s.weights (word_in o) + get_or added (target_in o) 0 + way_weight added s numbers) (sym at) in
-    ((found.0, at, is_live, no_back s laid n found.0 at tells.1, here,
-    subst (λ (m : ℕ). Leads s m numbers to) there rest.0), weighs)
+    ∙ ap (λ (o : Option Edge). word_weight s.weights (word_in o) + get_or added (target_in o) 0 + way_weight added s numbers) (sym at) in (
+      (
+        found.0,
+        at,
+        is_live,
+        no_back s laid n found.0 at tells.1,
+        here,
+        subst (λ (m : ℕ). Leads s m numbers to) there rest.0,
+      ),
+      weighs,
+    )
 
 pub led_by : (added : List ℕ) (s : Setting) (from : ℕ) (numbers : List ℕ) (to weight : ℕ) → IsLaidOut s.graph → Goes added 0 (ways_of s) from numbers to weight → Leads s from numbers to × (weight ≡ way_weight added s numbers)
 led_by added s from numbers to weight laid g = led added s from numbers to weight laid (walks_of added 0 (ways_of s) from numbers to weight g)

@@ -1,25 +1,24 @@
 -- What is known of a graph while its paths are picked: loops, and what is added at their heads.
-use Rattle.std.proofs.Common.{◌≡◌, ◌≢◌, ℕ, zero, suc, ◌+◌, ◌-◌, ◌*◌, ◌<◌, ◌≤◌, ◌⊎◌, inl, inr, ⊎_elim, Bool, true, false, List, [], ◌∷◌, length, get_or, replicate, Option, Some, None, refl, ap, sym, ◌∙◌, subst, arith}
+use Rattle.std.proofs.Common.{◌≡◌, ℕ, ◌+◌, ◌-◌, ◌*◌, ◌<◌, ◌≤◌, ⊎_elim, false, List, [], ◌∷◌, length, get_or, replicate, Option, Some, None, refl, ap, sym, ◌∙◌, subst, arith}
 use Rattle.std.specs.Prelude.{slice_get}
 use Rattle.std.proofs.Math.ListN.{set, length-set}
 use Rattle.std.proofs.lemmas.Bool.{cases_eq, cases_lt}
 use Rattle.std.proofs.lemmas.Grind.{get_or-set_at}
 use Rattle.std.proofs.lemmas.List.{get_or-set_other, get_or-replicate, length-replicate, get_or_past}
 use Rattle.std.proofs.lemmas.Option.{none-some, same_Some}
-use Rattle.wm_cost.specs.Edges.{way_of, ways_from}
-use Rattle.wm_cost.specs.Turnings.{source_of, source_at, turnings_from}
-use Rattle.wm_flow.specs.declared.graph.Edge.{Edge}
+use Rattle.wm_cost.specs.Edges.{way_of}
+use Rattle.wm_cost.specs.Turnings.{source_of, turnings_from}
 use Rattle.wm_flow.specs.declared.graph.Head.{Head}
 use Rattle.wm_ways.specs.declared.ways.Turning.{Turning}
 use Rattle.wm_ways.specs.declared.ways.Way.{Way}
 use Rattle.wm_ways.specs.Loops.{body, marked, filled}
 use Rattle.wm_ways.specs.Numbers.{cut, or_nought}
-use Rattle.wm_ways.specs.Sweeps.{best_at, swept, ending_at, stretch}
+use Rattle.wm_ways.specs.Sweeps.{best_at, ending_at, stretch}
 use Rattle.wm_ways.specs.Whole.{firsts_of, marks_of, added_of}
 use Rattle.wm_path.specs.Bodies.{inside, table_of}
 use Rattle.wm_path.specs.Fields.{Field, field_of, head_numbers}
 use Rattle.wm_path_laws.specs.Choices.{IsLaidOut, IsLoop, Setting, last_of}
-use Rattle.wm_path_laws.specs.Paths.{AreOrdered, AreEnds, Goes}
+use Rattle.wm_path_laws.specs.Paths.{AreOrdered, Goes}
 use Rattle.wm_path_laws.proofs.Added.{nothing_at, turns_at}
 use Rattle.wm_path_laws.proofs.Leading.{ordered, source_is, way_at, ways_of}
 use Rattle.wm_path_laws.proofs.Marks.{IsMarked, find_mark, find_number, turning_for}
@@ -203,12 +202,13 @@ module _ (s : Setting) (count : ℕ) (laid : IsLaidOut s.graph) (counted : count
       record {
         ordered = subst (λ (m : ℕ). AreOrdered head.node m head.node (stretch (ways_of s) first head.back)) (sym (count_of_ending head.node (last_of s head))) body_is;
         ends = nought_ends head.node (last_of s head);
-        into = λ numbers to weight end g.
-          (subst (λ (m : ℕ). Goes (added s count) first (stretch (ways_of s) first head.back) head.node numbers m weight) (sym end)
-          (narrow count (ways_of s) head.node first head.back all_ordered parts (last_of s head) way is_way is_last above (added s count) numbers weight
-          (subst (λ (m : ℕ). Goes (added s count) 0 (ways_of s) head.node numbers m weight) end g)),
-          ap (best_at head.node (ending_at head.node (last_of s head))) end ∙ end_at head.node (last_of s head));
+        into = λ numbers to weight end g. (
+          subst (λ (m : ℕ). Goes (added s count) first (stretch (ways_of s) first head.back) head.node numbers m weight) (sym end)
+              (narrow count (ways_of s) head.node first head.back all_ordered parts (last_of s head) way is_way is_last above (added s count) numbers weight
+              (subst (λ (m : ℕ). Goes (added s count) 0 (ways_of s) head.node numbers m weight) end g)),
+          ap (best_at head.node (ending_at head.node (last_of s head))) end ∙ end_at head.node (last_of s head),
+        );
         out = λ numbers to weight known g e.
-          let whole = widen count (ways_of s) head.node first head.back all_ordered parts (last_of s head) way is_way is_last above (added s count) numbers to weight g in
-          ((end_tells head.node (last_of s head) to known above (goes_up 0 count 0 (added s count) 0 (ways_of s) head.node numbers to weight all_ordered whole) e).0, whole);
+            let whole = widen count (ways_of s) head.node first head.back all_ordered parts (last_of s head) way is_way is_last above (added s count) numbers to weight g in
+            ((end_tells head.node (last_of s head) to known above (goes_up 0 count 0 (added s count) 0 (ways_of s) head.node numbers to weight all_ordered whole) e).0, whole);
       }

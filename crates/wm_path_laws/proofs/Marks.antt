@@ -1,6 +1,6 @@
 -- The loops and the numbers of heads by their nodes, and that each loop to which a run comes has a bound on its turns.
-use Rattle.std.proofs.Common.{◌≡◌, ◌≢◌, ℕ, zero, suc, ◌+◌, ◌<◌, ◌≤◌, ◌⊎◌, inl, inr, ⊎_elim, Bool, true, false, List, [], ◌∷◌, ◌++◌, length, get_or, min, Option, Some, None, refl, ap, sym, ◌∙◌, subst, arith}
-use Rattle.std.specs.Prelude.{◌&&◌, nat_lt, slice_get, if◌then◌else◌}
+use Rattle.std.proofs.Common.{◌≡◌, ◌≢◌, ℕ, zero, suc, ◌+◌, ◌<◌, ◌⊎◌, inl, inr, Bool, true, false, List, [], ◌∷◌, ◌++◌, length, get_or, min, Option, Some, None, refl, ap, sym, ◌∙◌, subst, arith}
+use Rattle.std.specs.Prelude.{nat_lt, slice_get, if◌then◌else◌}
 use Rattle.std.proofs.Math.ListN.{set, length-set}
 use Rattle.std.proofs.lemmas.Bool.{cases_eq, and_from, lt-ltb}
 use Rattle.std.proofs.lemmas.Grind.{get_or-set_at}
@@ -48,8 +48,13 @@ one_by : (edges : List Edge) (turns : Option ℕ) (head : Head) (marks : List (O
 one_by edges turns head marks node None t is_l is_t h place = inr (refl, λ ne. absurd (ne is_l))
 one_by edges turns head marks node (Some l) None is_l is_t h place = inr (refl, λ ne n e at. none-some n (sym is_t ∙ e))
 one_by edges turns head marks node (Some l) (Some n) is_l is_t h (inl here) =
-    inl (n, (λ e. none-some l (sym e ∙ is_l)), is_t, sym here,
-    get_or-set_at marks head.node node (Some (turning_for edges head n)) None here (omega (arith, h, here)))
+    inl (
+      n,
+      (λ e. none-some l (sym e ∙ is_l)),
+      is_t,
+      sym here,
+      get_or-set_at marks head.node node (Some (turning_for edges head n)) None here (omega (arith, h, here)),
+    )
 one_by edges turns head marks node (Some l) (Some n) is_l is_t h (inr ne) =
     inr (get_or-set_other marks head.node node (Some (turning_for edges head n)) None ne, λ is m e at. ne (sym at))
 
@@ -65,12 +70,16 @@ find_mark edges turns number (head ∷ heads) marks node h =
   where
     now : (m : Option Turning) → Type 0
     now m = IsMarked edges turns number (head ∷ heads) node m ⊎ ((m ≡ get_or marks node None) × IsPlain turns number (head ∷ heads) node)
+
     whole : get_or (marked (turnings_from edges turns (suc number) heads) (marked (turning_of edges (get_or turns number None) head) marks)) node None ≡ get_or (marked (turnings_from edges turns number (head ∷ heads)) marks) node None
     whole = ap (λ (ms : List (Option Turning)). get_or ms node None) (sym (marked_append (turning_of edges (get_or turns number None) head) (turnings_from edges turns (suc number) heads) marks))
+
     same : number + 0 ≡ number
     same = omega arith
+
     shifted : (k : ℕ) → suc number + k ≡ number + suc k
     shifted k = omega arith
+
     join : IsHere edges (get_or turns number None) head node (get_or (marked (turning_of edges (get_or turns number None) head) marks) node None) ⊎ IsNotHere (get_or turns number None) head node (get_or (marked (turning_of edges (get_or turns number None) head) marks) node None) (get_or marks node None)
         → IsMarked edges turns (suc number) heads node (get_or (marked (turnings_from edges turns (suc number) heads) (marked (turning_of edges (get_or turns number None) head) marks)) node None)
         ⊎ ((get_or (marked (turnings_from edges turns (suc number) heads) (marked (turning_of edges (get_or turns number None) head) marks)) node None ≡ get_or (marked (turning_of edges (get_or turns number None) head) marks) node None) × IsPlain turns (suc number) heads node)

@@ -1,5 +1,5 @@
 -- No choice weighs more than its list of edges with what is added at its heads.
-use Rattle.std.proofs.Common.{◌≡◌, ◌≢◌, ℕ, zero, suc, ◌+◌, ◌-◌, ◌*◌, ◌<◌, ◌≤◌, ◌⊎◌, inl, inr, ⊎_elim, List, [], ◌∷◌, length, get_or, map, min, Option, Some, None, refl, ap, sym, ◌∙◌, subst, arith}
+use Rattle.std.proofs.Common.{◌≡◌, ℕ, zero, suc, ◌+◌, ◌*◌, ◌<◌, ◌≤◌, inl, inr, ⊎_elim, List, [], ◌∷◌, length, get_or, map, min, Option, Some, None, refl, ap, sym, ◌∙◌, subst, arith}
 use Rattle.std.specs.Prelude.{slice_get}
 use Rattle.std.proofs.lemmas.Bool.{cases_lt}
 use Rattle.std.proofs.lemmas.Bool.Decides.{nat_tests}
@@ -13,7 +13,7 @@ use Rattle.wm_path.specs.declared.choice.Body.{Body}
 use Rattle.wm_path.specs.declared.choice.Choice.{Choice}
 use Rattle.wm_path.specs.declared.choice.Choice.TheViews.{out-Choice}
 use Rattle.wm_path.specs.declared.choice.Choice.TheFolds.{fold_out-Choice}
-use Rattle.wm_path_laws.specs.Choices.{IsLaidOut, Setting, IsLoop, Leads, Meets, IsTurn, AreTurns, IsWithin, last_of, edge_weight, edges_weight, turns_weight, weight_step, weight_of}
+use Rattle.wm_path_laws.specs.Choices.{IsLaidOut, Setting, Leads, Meets, AreTurns, IsWithin, last_of, edge_weight, edges_weight, turns_weight, weight_step, weight_of}
 use Rattle.wm_path_laws.proofs.Leading.{target_in, way_weight}
 use Rattle.wm_path_laws.proofs.Loops.{added, added_some, field, firsts, through}
 use Rattle.wm_path_laws.proofs.Marks.{turning_for}
@@ -138,6 +138,8 @@ module _ (s : Setting) (count : ℕ) (laid : IsLaidOut s.graph) (counted : count
 
   pub below : (levels from to : ℕ) (choice : Choice) → IsWithin levels s from to choice → Below choice from to
   below zero from to choice is = absurd is
-  below (suc levels) from to choice is =
-      (subst (λ (n : ℕ). cut n ≤ cut (way_weight (added s count) s (out-Choice choice).edges)) (sym (weight_out s choice))
-      (around levels (λ from' to' choice' is'. below levels from' to' choice' is') (out-Choice choice).edges (out-Choice choice).bodies is.1), is.0)
+  below (suc levels) from to choice is = (
+    subst (λ (n : ℕ). cut n ≤ cut (way_weight (added s count) s (out-Choice choice).edges)) (sym (weight_out s choice))
+        (around levels (λ from' to' choice' is'. below levels from' to' choice' is') (out-Choice choice).edges (out-Choice choice).bodies is.1),
+    is.0,
+  )

@@ -1,11 +1,11 @@
 -- The edges from a node on, and those of the body of a loop.
-use Rattle.std.proofs.Common.{◌≡◌, ◌≢◌, ℕ, zero, suc, ◌+◌, ◌-◌, ◌<◌, ◌≤◌, ◌⊎◌, inl, inr, ⊎_elim, List, [], ◌∷◌, length, get_or, take, drop, replicate, Option, Some, None, refl, ap, sym, ◌∙◌, subst, arith}
+use Rattle.std.proofs.Common.{◌≡◌, ◌≢◌, ℕ, zero, suc, ◌+◌, ◌-◌, ◌<◌, ◌≤◌, ◌⊎◌, inl, inr, ⊎_elim, List, [], ◌∷◌, length, get_or, take, drop, replicate, Some, refl, ap, sym, ◌∙◌, subst, arith}
 use Rattle.std.specs.Prelude.{slice_get}
 use Rattle.std.proofs.Math.ListN.{set, length-set}
 use Rattle.std.proofs.lemmas.Bool.{cases_eq, cases_lt}
 use Rattle.std.proofs.lemmas.Grind.{get_or-set_at}
 use Rattle.std.proofs.lemmas.List.{get_or-set_other, get_or-replicate, length-replicate, take_all, drop_all}
-use Rattle.std.proofs.lemmas.Option.{none-some, slice_get_within}
+use Rattle.std.proofs.lemmas.Option.{none-some}
 use Rattle.wm_ways.specs.declared.ways.Way.{Way}
 use Rattle.wm_ways.specs.Loops.{firsts_from}
 use Rattle.wm_ways.specs.Sweeps.{stretch}
@@ -77,9 +77,9 @@ parts_by count ways node first o (inr found) =
       before = subst (λ (n : ℕ). Each (λ w. w.source ≢ node) (take n ways)) same found.5;
       behind = subst (λ (n : ℕ). AreOrdered 0 count n (drop first ways)) found.4 (subst (λ (n : ℕ). AreOrdered 0 count found.1.source (drop n ways)) same (from_ordered 0 count 0 found.0 ways found.1 o found.3));
       low = λ k way e h.
-        let under : way.source ≤ found.1.source =
-        each_at (λ w. w.source ≤ found.1.source) (take found.0 ways) (before_ordered 0 count 0 found.0 ways found.1 o found.3) k way (get_taken ways k found.0 way e (omega (arith, h, same))) in
-        inr (omega (arith, under, found.4));
+          let under : way.source ≤ found.1.source =
+          each_at (λ w. w.source ≤ found.1.source) (take found.0 ways) (before_ordered 0 count 0 found.0 ways found.1 o found.3) k way (get_taken ways k found.0 way e (omega (arith, h, same))) in
+          inr (omega (arith, under, found.4));
     }
 
 pub parts_of : (count : ℕ) (ways : List Way) (node : ℕ) → AreOrdered 0 count 0 ways → node < count → Parts count ways node (get_or (firsts_of ways count) node 0)

@@ -1,12 +1,12 @@
 -- Paths from a node to ends, by the part of the edges over which they lead.
-use Rattle.std.proofs.Common.{◌≡◌, ◌≢◌, ℕ, zero, suc, ◌+◌, ◌-◌, ◌<◌, ◌≤◌, ◌⊎◌, inl, inr, ⊎_elim, Bool, true, false, List, [], ◌∷◌, length, get_or, Option, Some, None, refl, ap, sym, ◌∙◌, subst, arith}
+use Rattle.std.proofs.Common.{◌≡◌, ◌≢◌, ℕ, suc, ◌+◌, ◌-◌, ◌<◌, ◌≤◌, ◌⊎◌, inl, inr, Bool, true, false, List, [], ◌∷◌, length, get_or, Option, Some, None, refl, ap, sym, ◌∙◌, subst, arith}
 use Rattle.std.proofs.lemmas.Bool.{cases_eq}
-use Rattle.std.proofs.lemmas.Option.{none-some, same_Some}
+use Rattle.std.proofs.lemmas.Option.{none-some}
 use Rattle.wm_ways.proofs.Paths.{no_path_weighs_more}
 use Rattle.wm_ways.specs.declared.ways.Way.{Way}
 use Rattle.wm_ways.specs.Numbers.{cut, along, greater}
 use Rattle.wm_ways.specs.Paths.{IsAtLeast}
-use Rattle.wm_ways.specs.Sweeps.{best_at, onward, relaxed, swept}
+use Rattle.wm_ways.specs.Sweeps.{best_at, swept}
 use Rattle.wm_path.specs.Picks.{picked}
 use Rattle.wm_path_laws.specs.Choices.{IsLaidOut, Setting, Leads}
 use Rattle.wm_path_laws.specs.Paths.{Goes, AreOrdered, AreEnds, IsNotAfter}
@@ -96,9 +96,9 @@ module _ (s : Setting) (laid : IsLaidOut s.graph) (added : List ℕ) (from : ℕ
         leads = l.0;
         weighs = sym l.1;
         greatest = λ other end is l'.
-          let h = route.into other end (way_weight added s other) is (goes added s from other end laid l') in
-          p.0 other end (way_weight added s other) h.0 h.1;
+            let h = route.into other end (way_weight added s other) is (goes added s from other end laid l') in
+            p.0 other end (way_weight added s other) h.0 h.1;
         before = λ other end is l' w.
-          let h = route.into other end (way_weight added s other) is (goes added s from other end laid l') in
-          p.1.before other end (subst (λ (n : ℕ). Goes added number part from other end n) w h.0) h.1;
+            let h = route.into other end (way_weight added s other) is (goes added s from other end laid l') in
+            p.1.before other end (subst (λ (n : ℕ). Goes added number part from other end n) w h.0) h.1;
       }

@@ -1,5 +1,5 @@
 -- The walk that picks the edges.
-use Rattle.std.proofs.Common.{◌≡◌, ◌≢◌, ℕ, suc, ◌+◌, ◌-◌, ◌<◌, ◌≤◌, ◌⊎◌, inl, inr, ⊎_elim, Bool, true, false, List, [], ◌∷◌, length, get_or, Option, Some, None, refl, ap, sym, ◌∙◌, subst, arith}
+use Rattle.std.proofs.Common.{◌≡◌, ◌≢◌, ℕ, suc, ◌+◌, ◌-◌, ◌<◌, ◌≤◌, inl, inr, ⊎_elim, Bool, true, false, List, [], ◌∷◌, length, get_or, Option, Some, None, refl, ap, sym, ◌∙◌, subst, arith}
 use Rattle.std.specs.Prelude.{◌&&◌, if◌then◌else◌, ◌==◌}
 use Rattle.std.proofs.lemmas.Bool.{cases_eq, cases_lt}
 use Rattle.std.proofs.lemmas.Bool.Decides.{nat_tests}
@@ -7,7 +7,7 @@ use Rattle.wm_ways.proofs.Paths.{no_path_weighs_more}
 use Rattle.wm_ways.specs.declared.ways.Way.{Way}
 use Rattle.wm_ways.specs.Numbers.{cut, along, greater}
 use Rattle.wm_ways.specs.Paths.{Leads, AreInside, IsAtLeast}
-use Rattle.wm_ways.specs.Sweeps.{best_at, onward, relaxed, swept}
+use Rattle.wm_ways.specs.Sweeps.{best_at, swept}
 use Rattle.wm_path.specs.Picks.{are_both, beyond, unless_nought, sought, attains, takes, picked}
 use Rattle.wm_path_laws.specs.Paths.{Goes, AreOrdered, AreEnds, IsNotAfter, IsFirst, IsGreatest, PicksTheFirst}
 use Rattle.wm_path_laws.proofs.Tables.{uncut, uncut_least, some_is, none_is_not, length_swept, unmoved, closed_at, moved, greater_first, greater_second, along_gives}
@@ -71,7 +71,7 @@ pass first added best ending number at way ways b e =
     ap (λ (t : Bool). if t then number ∷ picked first added best ending (suc number) way.target ways else picked first added best ending (suc number) at ways) e
 
 -- nothing is picked where nothing is sought
-idle : (first : ℕ) (added : List ℕ) (best ending : List (Option ℕ)) (number at : ℕ) (ways : List Way) → sought first best ending at ≡ None → picked first added best ending number at ways ≡ []
+pub idle : (first : ℕ) (added : List ℕ) (best ending : List (Option ℕ)) (number at : ℕ) (ways : List Way) → sought first best ending at ≡ None → picked first added best ending number at ways ≡ []
 idle first added best ending number at [] e = refl
 idle first added best ending number at (way ∷ ways) e =
     pass first added best ending number at way ways false (idle_here first added best ending at way e) ∙ idle first added best ending (suc number) at ways e

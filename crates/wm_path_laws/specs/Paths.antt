@@ -1,5 +1,5 @@
 -- Paths by the numbers of their edges: the one that is picked is the first of those of the greatest weight.
-use Rattle.std.specs.Prelude.{◌≡◌, ℕ, suc, ◌+◌, ◌-◌, ◌<◌, ◌≤◌, ◌⊎◌, true, List, [], ◌∷◌, length, Option, Some, None, slice_index_or}
+use Rattle.std.specs.Prelude.{◌≡◌, ℕ, suc, ◌+◌, ◌-◌, ◌<◌, ◌≤◌, ◌⊎◌, true, List, [], ◌∷◌, length, Option, Some, slice_index_or}
 use Rattle.wm_ways.specs.declared.ways.Way.{Way}
 use Rattle.wm_ways.specs.Sweeps.{best_at, swept}
 use Rattle.wm_path.specs.Picks.{picked}

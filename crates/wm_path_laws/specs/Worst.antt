@@ -1,5 +1,5 @@
 -- The worst choice: that of the greatest weight, and of those the one with the first list of edges.
-use Rattle.std.specs.Prelude.{◌≡◌, ◌≢◌, ℕ, zero, suc, ◌≤◌, ◌⊎◌, true, false, List, [], ◌∷◌, length, Option, Some, None, slice_get, slice_index_or}
+use Rattle.std.specs.Prelude.{◌≡◌, ◌≢◌, ℕ, zero, suc, ◌≤◌, ◌⊎◌, true, false, List, [], ◌∷◌, length, Some, None, slice_get, slice_index_or}
 use Rattle.wm_cost.specs.Bounds.{frame_bound}
 use Rattle.wm_flow.specs.declared.graph.Bound.TheVariants.{At}
 use Rattle.wm_flow.specs.declared.graph.Head.{Head}
