@@ -6,7 +6,7 @@ use Rattle.std.proofs.lemmas.Bool.{cases_eq, leb-true}
 use Rattle.std.proofs.lemmas.Grind.{get_or-set_at}
 use Rattle.std.proofs.lemmas.List.{get_or-drop, get_or-set_other, length-drop}
 use Rattle.std.proofs.lemmas.Option.{none-some, same_Some}
-use Rattle.wm_cost.specs.Bounds.{told, weight_from, bound_at, bound_with, bound_from}
+use Rattle.wm_cost.specs.Bounds.{told, weight_from, bound_at, bound_with, frame_bound, bound_from}
 use Rattle.wm_cost.specs.Endless.{endless_from}
 use Rattle.wm_cost.specs.Turnings.{source_of}
 use Rattle.wm_flow.specs.declared.graph.Bound.TheVariants.{At, NoTrips, TooLarge}
@@ -228,12 +228,17 @@ module _ (s : Setting) (frame : Head) (laid : IsLaidOut s.graph) (counted : leng
       subst (λ (x : Choice). Result x bound) (sym (choice_is s frame) ∙ c)
       (by_known each_turns t.0 (best_at frame.node (table_in s (length s.facts.stops) frame) frame.node) bound refl (sym (weight_is s frame) ∙ t.1) t.2)
 
+from_is : (s : Setting) (frame : Head) (bound : ℕ) → slice_get s.graph.heads 0 ≡ Some frame → frame_bound s.graph s.weights s.facts.turns s.facts.live s.facts.stops ≡ At bound → bound_from s.graph s.weights s.facts.turns s.facts.live s.facts.stops frame ≡ At bound
+from_is s frame bound at b = sym (ap (bound_at s.graph s.weights s.facts.turns s.facts.live s.facts.stops) at) ∙ b
+
+-- a bound that is a number is at most 10^15
+pub bound_small : (s : Setting) (frame : Head) (bound : ℕ) → slice_get s.graph.heads 0 ≡ Some frame → frame_bound s.graph s.weights s.facts.turns s.facts.live s.facts.stops ≡ At bound → bound ≤ 1000000000000000
+bound_small s frame bound at b = (bound_tells s frame bound (from_is s frame bound at b)).2
+
 pub gives_the_worst : GivesTheWorst
 gives_the_worst s frame choice bound laid counted each_turns at b w =
-    result s frame laid counted at each_turns choice bound from_is (same_Some (choice_at s.graph s.weights s.facts frame) choice choice_given)
+    result s frame laid counted at each_turns choice bound (from_is s frame bound at b) (same_Some (choice_at s.graph s.weights s.facts frame) choice choice_given)
   where
-    from_is : bound_from s.graph s.weights s.facts.turns s.facts.live s.facts.stops frame ≡ At bound
-    from_is = sym (ap (bound_at s.graph s.weights s.facts.turns s.facts.live s.facts.stops) at) ∙ b
 
     choice_given : Some (choice_at s.graph s.weights s.facts frame) ≡ Some choice
     choice_given =
