@@ -1,14 +1,12 @@
 -- The choices that are picked are the worst: that of a path with the choices of the turns of the loops on it.
-use Rattle.std.proofs.Common.{◌≡◌, ◌≢◌, ℕ, zero, suc, ◌+◌, ◌*◌, ◌<◌, ◌≤◌, inl, inr, ⊎_elim, false, List, [], ◌∷◌, ◌++◌, length, get_or, map, min, Option, Some, None, refl, ap, sym, ◌∙◌, subst, arith}
+use Rattle.std.proofs.Common.{◌≡◌, ◌≢◌, ℕ, zero, suc, ◌+◌, ◌*◌, ◌<◌, ◌≤◌, inl, inr, false, List, [], ◌∷◌, ◌++◌, length, get_or, map, min, Option, Some, None, refl, ap, sym, ◌∙◌, subst, arith}
 use Rattle.std.specs.Prelude.{slice_get}
-use Rattle.std.proofs.lemmas.Option.{none-some, same_Some}
 use Rattle.wm_cost.specs.Edges.{way_of}
 use Rattle.wm_flow.specs.declared.graph.Edge.{Edge}
 use Rattle.wm_flow.specs.declared.graph.Head.{Head}
 use Rattle.wm_ways.specs.declared.ways.Turning.{Turning}
 use Rattle.wm_ways.specs.declared.ways.Way.{Way}
 use Rattle.wm_ways.specs.Numbers.{cut, or_nought}
-use Rattle.wm_ways.specs.Paths.{IsAtLeast}
 use Rattle.wm_ways.specs.Sweeps.{best_at, ending_at}
 use Rattle.wm_path.specs.Bodies.{inside, table_of, turn_edges, choice_with, body_along, body_with, made, at_loop, bodies_by, turn_of, bodies_of}
 use Rattle.wm_path.specs.Fields.{target_of, mark_in, loop_behind}
@@ -20,10 +18,11 @@ use Rattle.wm_path_laws.specs.Choices.{IsLaidOut, IsLive, Setting, IsLoop, Leads
 use Rattle.wm_path_laws.specs.Paths.{IsNotAfter}
 use Rattle.wm_path_laws.specs.Worst.{IsFirstOfGreatest, AreWorst, IsWorstWithin, EachTurns}
 use Rattle.wm_path_laws.proofs.Leading.{target_in, target_is, way_at, ways_of, way_weight}
-use Rattle.wm_path_laws.proofs.Loops.{added, added_none, field, firsts, marks, mark_of, mark_tells, number_of, numbers, through}
+use Rattle.wm_path_laws.proofs.Loops.{added, added_none, field, firsts, marks, mark_tells, number_of, numbers, through}
 use Rattle.wm_path_laws.proofs.Marks.{turning_for}
+use Rattle.wm_path_laws.proofs.Meeting.{entered, no_meets, no_way, node_is}
 use Rattle.wm_path_laws.proofs.Others.{added_behind, below, cut_least, weighed, weight_out}
-use Rattle.wm_path_laws.proofs.Routes.{IsPicked, at_least, leads_on, picks}
+use Rattle.wm_path_laws.proofs.Routes.{IsPicked, leads_on, picks}
 use Rattle.wm_path_laws.proofs.Tables.{uncut}
 
 -- ---- numbers
@@ -148,16 +147,6 @@ module _ (s : Setting) (count : ℕ) (laid : IsLaidOut s.graph) (counted : count
       up : l.0.source < l.0.target
       up = laid.rises number l.0 l.1 l.3
 
-      -- the head to which the edge leads is live
-      entered : (k : ℕ) (head : Head) → Meets s number k head → IsLive s head.entry
-      entered k head m =
-          let same : m.0 ≡ l.0 = same_Some m.0 l.0 (sym m.1 ∙ l.1) in
-          ⊎_elim (λ (e : number ≡ head.entry). subst (IsLive s) e l.2) (λ (e : number ≡ head.back). absurd (l.3 k head m.2.0 e))
-          (laid.entered k head number m.0 m.2.0 m.1 m.3)
-
-      node_is : (k : ℕ) (head : Head) → Meets s number k head → l.0.target ≡ head.node
-      node_is k head m = ap (λ (e : Edge). e.target) (same_Some l.0 m.0 (sym l.1 ∙ m.1)) ∙ m.3
-
       weight_here : (n : ℕ) → get_or (added s count) (target_in (slice_get s.graph.edges number)) 0 ≡ n → way_weight (added s count) s (number ∷ edges) ≡ edge_weight s number + n + way_weight (added s count) s edges
       weight_here n e = ap (λ (a : ℕ). edge_weight s number + a + way_weight (added s count) s edges) e
 
@@ -177,29 +166,13 @@ module _ (s : Setting) (count : ℕ) (laid : IsLaidOut s.graph) (counted : count
       no_loop : get_or (marks s count) l.0.target None ≡ None → Stands (suc levels) s count (number ∷ edges) bodies
       no_loop none =
           nothing (ap (λ (o : Option Edge). get_or (added s count) (target_in o) 0) l.1 ∙ added_none s count laid counted l.0.target none)
-          (inl (
-            (λ k head m.
-                let place : l.0.target ≡ head.node = node_is k head m in
-                let t = bounded k head m.2 (omega (arith, up, place, low, l.4)) (entered k head m) in
-                none-some (turning_for s.graph.edges head t.0) (sym none ∙ ap (λ (n : ℕ). get_or (marks s count) n None) place ∙ mark_of s count laid counted k head t.0 m.2 t.1)),
-            rest.turns,
-          ))
+          (inl (no_meets s count laid counted start bounded number l.0 l.1 l.2 l.3 (omega (arith, low, l.4)) none, rest.turns))
 
       module _ (k : ℕ) (head : Head) (n : ℕ) (m : Meets s number k head) (turns : get_or s.facts.turns k None ≡ Some n) where
         idle : best_at head.node (table_of (field s count) (turning_for s.graph.edges head n)) head.node ≡ None → Stands (suc levels) s count (number ∷ edges) bodies
         idle none =
             nothing (added_behind s count laid counted number k head n m turns ∙ ap (λ (o : Option ℕ). cut (n * or_nought o)) none ∙ nought n)
-            (inr (inl (
-              (
-                k,
-                head,
-                m,
-                λ way thr.
-                    subst (IsAtLeast (cut (way_weight (added s count) s way))) none
-                    (at_least s laid (added s count) head.node (λ node. node ≡ last_of s head) (get_or (firsts s count) head.node 0) (inside (field s count) (turning_for s.graph.edges head n)) (ending_at head.node (last_of s head)) (through s count laid counted k head n m.2.0) way (last_of s head) refl thr),
-              ),
-              rest.turns,
-            )))
+            (inr (inl ((k, head, m, no_way s count laid counted number k head n m none), rest.turns)))
           where
             nought : (n : ℕ) → cut (n * 0) ≡ 0
             nought n =
@@ -231,7 +204,7 @@ module _ (s : Setting) (count : ℕ) (laid : IsLaidOut s.graph) (counted : count
             adds = added_behind s count laid counted number k head n m turns ∙ ap (λ (o : Option ℕ). cut (n * or_nought o)) e
 
             some_turn : n ≢ 0
-            some_turn z = each_turns k head m.2 (entered k head m) l'.0 (subst (Leads s head.node l'.0) l'.2 l'.3) (turns ∙ ap Some z)
+            some_turn z = each_turns k head m.2 (entered s count laid counted number l.0 l.1 l.2 l.3 k head m) l'.0 (subst (Leads s head.node l'.0) l'.2 l'.3) (turns ∙ ap Some z)
 
             whole : (n * known ≡ cut (n * known)) × (known ≤ 1000000000000000)
             whole = one_turn known some_turn (in_all (edge_weight s number) (get_or (added s count) (target_in (slice_get s.graph.edges number)) 0) (way_weight (added s count) s edges) (cut (n * known)) adds small)
@@ -242,7 +215,7 @@ module _ (s : Setting) (count : ℕ) (laid : IsLaidOut s.graph) (counted : count
             c : IsChosen (suc levels) s head.node (λ node. node ≡ last_of s head) known
                 (choice_with (turn_edges (field s count) (turning_for s.graph.edges head n) (table_of (field s count) (turning_for s.graph.edges head n)))
                 (bodies_of levels (field s count) (turn_edges (field s count) (turning_for s.graph.edges head n) (table_of (field s count) (turning_for s.graph.edges head n)))))
-            c = turn k head n known m.2 turns (omega (arith, node_is k head m, up, low, l.4)) (omega (arith, node_is k head m, up, deep, l.4)) e whole.1
+            c = turn k head n known m.2 turns (omega (arith, node_is s count laid counted number l.0 l.1 k head m, up, low, l.4)) (omega (arith, node_is s count laid counted number l.0 l.1 k head m, up, deep, l.4)) e whole.1
 
             body : Body Choice
             body = body_with (field s count) (turning_for s.graph.edges head n) (turn_edges (field s count) (turning_for s.graph.edges head n) (table_of (field s count) (turning_for s.graph.edges head n)))

@@ -21,7 +21,7 @@ use Rattle.wm_path.specs.Fields.{Field}
 use Rattle.wm_path.specs.Picks.{beyond, picked}
 use Rattle.wm_path.specs.Worst.{choice_at, choice_behind, choice_from, ends_of, onward_edges, onward_table, with_bound}
 use Rattle.wm_path.specs.declared.choice.Choice.{Choice}
-use Rattle.wm_path_laws.specs.Choices.{IsLaidOut, Setting, last_of, weight_of}
+use Rattle.wm_path_laws.specs.Choices.{IsLaidOut, IsLive, IsLoop, Setting, last_of, weight_of}
 use Rattle.wm_path_laws.specs.Paths.{Goes}
 use Rattle.wm_path_laws.specs.Worst.{EachTurns, GivesTheWorst, IsCutOff, IsEndOf, IsWorst}
 use Rattle.wm_path_laws.proofs.Chosen.{IsChosen, bodies_are, chosen, edges_of, lists_stand, nothing_on, weight_with}
@@ -235,11 +235,15 @@ from_is s frame bound at b = sym (ap (bound_at s.graph s.weights s.facts.turns s
 pub bound_small : (s : Setting) (frame : Head) (bound : ℕ) → slice_get s.graph.heads 0 ≡ Some frame → frame_bound s.graph s.weights s.facts.turns s.facts.live s.facts.stops ≡ At bound → bound ≤ 1000000000000000
 bound_small s frame bound at b = (bound_tells s frame bound (from_is s frame bound at b)).2
 
+-- each live loop behind the frame head has a bound on its turns
+pub bounded_by : (s : Setting) (frame : Head) (bound : ℕ) → slice_get s.graph.heads 0 ≡ Some frame → frame_bound s.graph s.weights s.facts.turns s.facts.live s.facts.stops ≡ At bound → (k : ℕ) (head : Head) → IsLoop s k head → frame.node < head.node → IsLive s head.entry → ((n : ℕ) × (get_or s.facts.turns k None ≡ Some n))
+bounded_by s frame bound at b k head loop above live =
+    turns_bounded frame.node s.facts.turns s.facts.live s.graph.heads (bound_tells s frame bound (from_is s frame bound at b)).0 k head loop.0 above live loop.1
+
 pub gives_the_worst : GivesTheWorst
 gives_the_worst s frame choice bound laid counted each_turns at b w =
     result s frame laid counted at each_turns choice bound (from_is s frame bound at b) (same_Some (choice_at s.graph s.weights s.facts frame) choice choice_given)
   where
-
     choice_given : Some (choice_at s.graph s.weights s.facts frame) ≡ Some choice
     choice_given =
         sym (ap (λ (o : Option Head). Some (choice_behind s.graph s.weights s.facts o)) at)

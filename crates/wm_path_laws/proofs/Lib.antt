@@ -1,9 +1,12 @@
 pub mod Added
 pub mod Chosen
 pub mod Given
+pub mod Having
 pub mod Leading
 pub mod Loops
 pub mod Marks
+pub mod Meeting
+pub mod Only
 pub mod Others
 pub mod Parts
 pub mod Routes

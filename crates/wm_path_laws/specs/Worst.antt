@@ -61,3 +61,20 @@ GivesTheWorst =
     frame_bound s.graph s.weights s.facts.turns s.facts.live s.facts.stops ≡ At bound →
     worst_path s.graph s.weights s.facts ≡ Some choice →
     (weight_of s choice ≡ bound) × (IsWorst s frame.node (IsEndOf s frame) choice ⊎ IsCutOff s frame choice)
+
+-- No two choices are the worst of a frame.
+abbrev pub OneIsWorst : Type 0
+OneIsWorst =
+    (s : Setting) (frame : Head) (a b : Choice) →
+    IsLaidOut s.graph → IsWorst s frame.node (IsEndOf s frame) a → IsWorst s frame.node (IsEndOf s frame) b → a ≡ b
+
+-- Where the bound is a number, each list of live edges without back edges behind the frame head is that of a choice; so there is a
+-- choice through the body of a loop exactly where there is such a list.
+abbrev pub EachListIsChosen : Type 0
+EachListIsChosen =
+    (s : Setting) (frame : Head) (bound : ℕ) →
+    IsLaidOut s.graph → length s.facts.stops ≡ length s.graph.node_shape →
+    slice_get s.graph.heads 0 ≡ Some frame →
+    frame_bound s.graph s.weights s.facts.turns s.facts.live s.facts.stops ≡ At bound →
+    (from : ℕ) (way : List ℕ) (to : ℕ) → frame.node ≤ from → Leads s from way to →
+    ((choice : Choice) × ((out-Choice choice).edges ≡ way) × IsChoice s from to choice)

@@ -1,6 +1,6 @@
 // The first of the paths of greatest weight.
 ghost use Rattle.wm_path_laws.specs.Paths.{PicksTheFirst};
-ghost use Rattle.wm_path_laws.specs.Worst.{GivesTheWorst};
+ghost use Rattle.wm_path_laws.specs.Worst.{EachListIsChosen, GivesTheWorst, OneIsWorst};
 
 /// It does nothing: its contract tells that the edges which are picked are a path to an end, that it weighs what is known at
 /// its beginning, that no path to an end weighs more, and that none of the same weight comes before it in the order of lists.
@@ -8,7 +8,10 @@ pub fn pick_laws()
     ensures picks_the_first { PicksTheFirst }
 {}
 
-/// It does nothing: its contract tells that the choice which `worst_path` gives is the worst choice of a frame.
+/// It does nothing: its contract tells that the choice which `worst_path` gives is the worst choice of a frame, that no other is,
+/// and that each list of edges is that of a choice.
 pub fn choice_laws()
     ensures gives_the_worst { GivesTheWorst }
+    ensures one_is_worst { OneIsWorst }
+    ensures each_list_is_chosen { EachListIsChosen }
 {}
