@@ -1,5 +1,6 @@
 // Names in the order of their declarations, each found by a hash table.
-ghost use Rattle.std.specs.Prelude.{◌≡◌, [], ◌∷◌, ◌++◌, ◌-◌, take, drop, length, OnOk, OnErr};
+ghost use Rattle.std.specs.Prelude.{◌≡◌, [], ◌∷◌, ◌++◌, ◌-◌, take, drop, length, unwrap_or, OnOk, OnErr};
+ghost use Rattle.wm_scope.specs.declared.meaning.Meaning.{Meaning};
 ghost use Rattle.wm_scope.specs.Names.{latest, is_among};
 ghost use Rattle.wm_scope.specs.Indexed.{meaning_or, is_behind};
 
@@ -35,12 +36,12 @@ impl Model for Names {
     ghost invariant = { λ names. AreIndexed names.places names.entries.items };
 }
 
-fn meaning_or(last: Option<Last>, before: Meaning) -> Meaning
-    ensures { result ≡ meaning_or last before }
+fn meaning_at(last: Option<Last>) -> Option<Meaning>
+    ensures { (before : Meaning) → unwrap_or result before ≡ meaning_or last before }
 {
     match last {
-        None => before,
-        Some(last) => last.meaning,
+        None => None,
+        Some(last) => Some(last.meaning),
     }
 }
 
@@ -71,12 +72,12 @@ impl Names {
         self.entries.len()
     }
 
-    /// What the last name that is this one stands for, else what was meant before.
-    pub fn latest(&self, word: &[u8], before: Meaning) -> Meaning
-        ensures meaning { result ≡ latest word.now self.now before }
+    /// What the last name that is this one stands for. None where what was meant before stays.
+    pub fn latest(&self, word: &[u8]) -> Option<Meaning>
+        ensures meaning { (before : Meaning) → unwrap_or result before ≡ latest word.now self.now before }
     {
         let _entries = &self.entries;
-        meaning_or(self.places.last(word), before)
+        meaning_at(self.places.last(word))
     }
 
     /// Whether a name behind so many is this one.

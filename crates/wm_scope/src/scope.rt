@@ -1,6 +1,7 @@
 // The names in force at a place of a unit.
 ghost use Rattle.std.specs.Prelude.{◌≡◌, [], ◌∷◌, ◌++◌, length, OnOk, OnErr};
 ghost use Rattle.std.specs.Option.{option_copied};
+ghost use Rattle.wm_scope.specs.Names.{outermost, latest};
 ghost use Rattle.wm_scope.specs.Scopes.{meaning_of, is_here, with_name, opened, closed, offset_of, slots_of, result_of};
 
 use crate::meaning::{Meaning, Named, outermost};
@@ -43,12 +44,24 @@ pub struct Scope {
 }
 
 impl Scope {
+    /// What a name stands for outside of blocks.
+    fn meaning_outside(&self, word: &[u8]) -> Meaning
+        ensures { result ≡ latest word.now self.now.file (outermost word.now) }
+    {
+        match self.file.latest(word) {
+            Some(meaning) => meaning,
+            None => outermost(word),
+        }
+    }
+
     /// What a name stands for.
     pub fn meaning(&self, word: &[u8]) -> Meaning
         ensures meaning { result ≡ meaning_of word.now self.now }
     {
-        let outside = self.file.latest(word, outermost(word));
-        self.locals.latest(word, outside)
+        match self.locals.latest(word) {
+            Some(meaning) => meaning,
+            None => self.meaning_outside(word),
+        }
     }
 
     /// Whether a name is declared in the innermost block.

@@ -6,7 +6,8 @@ use Rattle.wm_scope.proofs.names.Names.latest.Goals as goal
 
 pub returns : goal.returns
 returns c = record {
-  meaning = c.meaning_or.ensures ∙ ap (λ last. meaning_or last c.args.before) (c.last.ensures.last ∙ c.self.invariant.0 c.args.word.now)
-      ∙ latest-last_from 0 c.args.word.now (names_of c.self.inside.entries.items) None c.args.before
-      ∙ ap (λ names. latest c.args.word.now names c.args.before) c.self.view_is;
+  meaning = λ before.
+      c.meaning_at.ensures before ∙ ap (λ last. meaning_or last before) (c.last.ensures.last ∙ c.self.invariant.0 c.args.word.now)
+      ∙ latest-last_from 0 c.args.word.now (names_of c.self.inside.entries.items) None before
+      ∙ ap (λ names. latest c.args.word.now names before) c.self.view_is;
 }
