@@ -3,6 +3,8 @@ ghost use Rattle.std.specs.Prelude.{◌≡◌, IfOk};
 ghost use Rattle.wm_program.specs.Code.{code_of};
 ghost use Rattle.wm_flow.specs.Views.{flow_of};
 ghost use Rattle.wm_flow.specs.Graphs.{graph_of};
+ghost use Rattle.wm_graph_laws.specs.Calling.{CallsStand};
+ghost use Rattle.wm_graph_laws.specs.Laws.{IsOrderly};
 
 use std::alloc::Global;
 use wm_flow::{Graph, Sum};
@@ -16,8 +18,16 @@ use wm_seats::{sum_rows, tables_of};
 /// variables, at most four for each head of an innermost loop, each with a step from 1 to 2147483647.
 ///
 /// `NoMemory`: memory ran out, or a number of the graph is past 32 bits.
-#[tactic(auto, unfolding(wm_flow::specs::Graphs::graph_of, wm_flow::specs::Parts::plan_of, wm_places::specs::Seen::plan_of))]
 pub fn lower(alloc: Global, program: &Program, sums: &[Sum]) -> Result<Graph, NoMemory>
+    ensures graph { IfOk result (λ graph. flow_of graph ≡ graph_of (code_of program.now) sums.now) }
+    ensures orderly { IfOk result (λ graph. CallsStand (code_of program.now) → IsOrderly (flow_of graph)) }
+{
+    drawn_graph(alloc, program, sums)
+}
+
+// the graph as it is drawn
+#[tactic(auto, unfolding(wm_flow::specs::Graphs::graph_of, wm_flow::specs::Parts::plan_of, wm_places::specs::Seen::plan_of))]
+fn drawn_graph(alloc: Global, program: &Program, sums: &[Sum]) -> Result<Graph, NoMemory>
     ensures graph { IfOk result (λ graph. flow_of graph ≡ graph_of (code_of program.now) sums.now) }
 {
     let tables = tables_of(alloc, program)?;

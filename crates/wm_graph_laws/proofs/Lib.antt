@@ -1,0 +1,12 @@
+pub mod Joins
+pub mod Values
+pub mod Effects
+pub mod Tests
+pub mod Pieces
+pub mod Trees
+pub mod Parts
+pub mod Lifted
+pub mod Same
+pub mod SameSizes
+pub mod Sized
+pub mod Whole

@@ -1,0 +1,5 @@
+use Rattle.wm_graph_laws.proofs.Whole.{graphs_are_orderly}
+use Rattle.wm_graph_laws.proofs.laws.graph_laws.Goals as goal
+
+pub returns : goal.returns
+returns c = record { orderly = graphs_are_orderly }
