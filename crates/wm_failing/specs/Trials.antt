@@ -6,7 +6,6 @@ use Rattle.wm_ops.specs.Clamping.{leaves32}
 use Rattle.wm_ops.specs.Operators.{arity_of}
 use Rattle.wm_ops.specs.Outcomes.{fails_of}
 use Rattle.wm_program.specs.Numbers.{plain_of}
-use Rattle.wm_program.specs.declared.tree.PlainMark.TheVariants.{Plus, Minus, Times, Divide}
 use Rattle.wm_hull.specs.Boxes.{zero_box, BoxesFit}
 use Rattle.wm_hull.specs.Failures.{Nowhere, IsFirst}
 use Rattle.wm_hull.specs.Ranges.{IsBox32}
@@ -42,12 +41,6 @@ abbrev pub IsFirstOf : (ℤ → ℤ → ℤ → Bool) → Interval → Interval 
 IsFirstOf test x y z None = Nowhere test x y z
 IsFirstOf test x y z (Some args) = IsFirst test x y z (arg_at args 0) (arg_at args 1) (arg_at args 2)
 
--- what is told of the first operands; of a quotient nothing so far
+-- the first operands in the boxes at which the trial fails, or none
 abbrev pub IsToldFirst : Trial → Interval → Interval → Interval → Option (List ℤ) → Type 0
-IsToldFirst (Applies op) x y z answer = IsFirstOf (fails_on (Applies op)) x y z answer
-IsToldFirst (Computes Plus) x y z answer = IsFirstOf (fails_on (Computes Plus)) x y z answer
-IsToldFirst (Computes Minus) x y z answer = IsFirstOf (fails_on (Computes Minus)) x y z answer
-IsToldFirst (Computes Times) x y z answer = IsFirstOf (fails_on (Computes Times)) x y z answer
-IsToldFirst (Computes Divide) x y z answer = Unit {0}
-IsToldFirst Negates x y z answer = IsFirstOf (fails_on Negates) x y z answer
-IsToldFirst (Stays low high) x y z answer = IsFirstOf (fails_on (Stays low high)) x y z answer
+IsToldFirst trial x y z answer = IsFirstOf (fails_on trial) x y z answer

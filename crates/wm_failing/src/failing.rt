@@ -1,6 +1,7 @@
 // The first operands at which a trial fails.
 ghost use Rattle.wm_hull.specs.Boxes.{zero_box};
 ghost use Rattle.wm_hull.specs.Ranges.{IsBox32};
+ghost use Rattle.wm_program.specs.declared.tree.PlainMark.TheVariants.{Divide};
 ghost use Rattle.wm_failing.specs.declared.trial.Trial.TheVariants.{Computes, Negates, Stays};
 ghost use Rattle.wm_failing.specs.Trials.{fails_on, box_at, TrialFits, IsFirstOf, IsToldFirst};
 
@@ -28,7 +29,10 @@ fn first_outside(x: Interval, low: i64, high: i64) -> Option<[i64; 3]>
 }
 
 /// The one quotient of numbers of 32 bits that is out of them is -2147483648 / -1.
-fn first_quotient(x: Interval, y: Interval) -> Option<[i64; 3]> {
+fn first_quotient(x: Interval, y: Interval) -> Option<[i64; 3]>
+    requires first { IsBox32 x }
+    ensures { IsFirstOf (fails_on (Computes Divide)) x y zero_box result }
+{
     if x.low > -2_147_483_648 {
         return None;
     }

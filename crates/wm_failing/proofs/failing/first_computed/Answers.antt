@@ -20,3 +20,11 @@ pub returns-in-Minus : goal.returns-in-Minus
 returns-in-Minus c =
     subst (λ (m : PlainMark). IsToldFirst (Computes m) c.args.x c.args.y zero_box c.worst-in-Minus.result) (sym c.in-Minus.is)
     (first_same (fails_of LSub) (λ (a b c : ℤ). leaves32 (plain_of Minus a b)) subtracts c.args.x c.args.y zero_box c.worst-in-Minus.result (worst_first LSub c.args.x c.args.y zero_box c.worst-in-Minus.result c.worst-in-Minus.ensures.first))
+
+pub returns-in-Times : goal.returns-in-Times
+returns-in-Times c =
+    subst (λ (m : PlainMark). IsToldFirst (Computes m) c.args.x c.args.y zero_box c.first_product.result) (sym c.in-Times.is) c.first_product.ensures
+
+pub returns-in-Divide : goal.returns-in-Divide
+returns-in-Divide c =
+    subst (λ (m : PlainMark). IsToldFirst (Computes m) c.args.x c.args.y zero_box c.first_quotient.result) (sym c.in-Divide.is) c.first_quotient.ensures
