@@ -1,5 +1,5 @@
 -- What is told of forms and of their ranges.
-use Rattle.std.proofs.Common.{◌≡◌, ◌<◌, ◌^◌, ℕ, ℤ, pos, negsuc, ◌≤ℤ◌, ◌<ℤ◌, true, List, [], ◌∷◌, Option, Some, None, arith, sym, subst, refl}
+use Rattle.std.proofs.Common.{◌≡◌, ◌<◌, ◌^◌, ℕ, ℤ, pos, negsuc, ◌≤ℤ◌, ◌<ℤ◌, ◌⊎◌, inl, inr, Bool, true, false, List, [], ◌∷◌, Option, Some, None, arith, sym, subst, refl}
 use Rattle.std.proofs.lemmas.Int.{ints}
 use Rattle.std.proofs.lemmas.Bool.Decides.{nat_tests}
 use Rattle.std.specs.Prelude.{◌↔◌, unsigned_abs, MatchOption}
@@ -14,6 +14,7 @@ use Rattle.wm_domain.specs.States.{IsBare}
 use Rattle.wm_domain.specs.declared.form.Form.{Form}
 use Rattle.wm_domain.specs.declared.form.Term.{Term}
 use Rattle.wm_sight.specs.Operands.{are_terms, Misses, Boxes}
+use Rattle.wm_sight.specs.Ranges.{IsCut, IsBox, HasNoBox, Stays}
 
 terms_shown : (n : ℕ) (ts : List Term) → are_terms n ts ≡ true → AreTerms n ts
 terms_shown n [] e = tt
@@ -64,3 +65,68 @@ pub stays_shown : (Has : Point → Type 0) (form : Form) (low high : ℤ) (range
 stays_shown Has form low high range h l u p k =
     let w = value_in Has form range h p k in
     record { above = le_trans l w.above; below = le_trans w.below u }
+
+-- ---- exact boxes
+
+pub bare_no_box : (Has : Point → Type 0) (form : Form) (low high : ℤ) → IsBare Has → HasNoBox Has form low high
+bare_no_box Has form low high h range is z c = h is.low_is.attained.x is.low_is.attained.is
+
+same_low : (Is : ℤ → Type 0) (a b : Interval) → IsHullOf Is a → IsHullOf Is b → a.low ≤ℤ b.low
+same_low Is a b h k = h.low_is.least b.low k.low_is.attained
+
+same_high : (Is : ℤ → Type 0) (a b : Interval) → IsHullOf Is a → IsHullOf Is b → b.high ≤ℤ a.high
+same_high Is a b h k = h.high_is.greatest b.high k.high_is.attained
+
+-- a number of one range of the form is one of the other
+pub same_range : (Is : ℤ → Type 0) (a b : Interval) (z : ℤ) → IsHullOf Is a → IsHullOf Is b → Holds a z → Holds b z
+same_range Is a b z h k w =
+    record { above = le_trans (same_low Is b a k h) w.above; below = le_trans w.below (same_high Is b a k h) }
+
+in_both : (range other : Interval) (low high : ℤ) (z : ℤ) → other.low ≡ low → other.high ≡ high → IsCut range low high z → InBoth range other z
+in_both range other low high z e f (h, w) =
+    (h, record { above = subst (λ x. x ≤ℤ z) (sym e) w.above; below = subst (λ x. z ≤ℤ x) (sym f) w.below })
+
+out_both : (range other : Interval) (low high : ℤ) (z : ℤ) → other.low ≡ low → other.high ≡ high → InBoth range other z → IsCut range low high z
+out_both range other low high z e f (h, w) =
+    (h, record { above = subst (λ x. x ≤ℤ z) e w.above; below = subst (λ x. z ≤ℤ x) f w.below })
+
+pub box_told : (Has : Point → Type 0) (form : Form) (low high : ℤ) (range other : Interval) (r : Option Interval) → IsHullOf (IsFormValue Has form) range → other.low ≡ low → other.high ≡ high
+    → MatchOption r ((z : ℤ) → InBoth range other z → ⊥) (λ b. IsHullOf (InBoth range other) b)
+    → MatchOption r (HasNoBox Has form low high) (IsBox Has form low high)
+box_told Has form low high range other None h e f none =
+    λ another is z c. none z (in_both range other low high z e f (same_range (IsFormValue Has form) another range z is h c.0, c.1))
+box_told Has form low high range other (Some b) h e f hull =
+    record {
+      range = range;
+      is = h;
+      cut = record {
+        low_is = record { attained = out_both range other low high b.low e f hull.low_is.attained; least = λ z c. hull.low_is.least z (in_both range other low high z e f c) };
+        high_is = record { attained = out_both range other low high b.high e f hull.high_is.attained; greatest = λ z c. hull.high_is.greatest z (in_both range other low high z e f c) };
+      };
+    }
+
+pub bare_stays : (Has : Point → Type 0) (form : Form) (low high : ℤ) → IsBare Has → Stays Has form low high
+bare_stays Has form low high h p k = absurd (h p k)
+
+low_apart : (x low high : ℤ) → x <ℤ low → Within low high x → ⊥
+low_apart x low high h w = omega (arith, ints)
+
+high_apart : (x low high : ℤ) → high <ℤ x → Within low high x → ⊥
+high_apart x low high h w = omega (arith, ints)
+
+pub stays_refuted : (Has : Point → Type 0) (form : Form) (low high : ℤ) (range : Interval) → IsHullOf (IsFormValue Has form) range → (range.low <ℤ low) ⊎ (high <ℤ range.high)
+    → Stays Has form low high → ⊥
+stays_refuted Has form low high range is (inl h) s =
+    let at = is.low_is.attained in
+    low_apart range.low low high h (subst (λ z. Within low high z) at.gives (s at.x at.is))
+stays_refuted Has form low high range is (inr h) s =
+    let at = is.high_is.attained in
+    high_apart range.high low high h (subst (λ z. Within low high z) at.gives (s at.x at.is))
+
+pub stays_exact : (Has : Point → Type 0) (form : Form) (low high : ℤ) (range : Interval) (r : Bool) → IsHullOf (IsFormValue Has form) range
+    → (r ≡ true → (low ≤ℤ range.low) × (range.high ≤ℤ high)) → (r ≡ false → (range.low <ℤ low) ⊎ (high <ℤ range.high))
+    → (r ≡ true) ↔ Stays Has form low high
+stays_exact Has form low high range true is inside outside =
+    (λ e p k. stays_shown Has form low high range is (inside refl).0 (inside refl).1 p k, λ s. refl)
+stays_exact Has form low high range false is inside outside =
+    (λ e. cc, λ s. absurd (stays_refuted Has form low high range is (outside refl) s))

@@ -1,1 +1,4 @@
 pub mod Operands
+pub mod Ranges
+pub mod Sights
+pub mod Sums

@@ -1,14 +1,18 @@
 // What the edges of a site show.
-ghost use Rattle.std.specs.Prelude.{◌≡◌, ◌≤ℤ◌, ◌<◌, IfOk, MatchOption, length, true, pos, negsuc};
+ghost use Rattle.std.specs.Prelude.{◌≡◌, ◌≤ℤ◌, ◌<◌, ◌↔◌, IfOk, MatchOption, length, true, pos, negsuc, [], ◌∷◌, None};
 ghost use Rattle.wm_numbers.specs.Within.{Within};
 ghost use Rattle.wm_domain.specs.Points.{Point};
 ghost use Rattle.wm_domain.specs.Forms.{form_value};
 ghost use Rattle.wm_domain.specs.States.{count_of, array_count};
 ghost use Rattle.wm_ops.specs.Arguments.{FitsAt};
+ghost use Rattle.wm_hull.specs.Boxes.{zero_box};
 ghost use Rattle.wm_hull.specs.Ranges.{IsBox32};
-ghost use Rattle.wm_failing.specs.declared.trial.Trial.TheVariants.{Applies};
+ghost use Rattle.wm_failing.specs.declared.trial.Trial.TheVariants.{Applies, Computes, Negates, Stays};
 ghost use Rattle.wm_failing.specs.Trials.{TrialFits, box_at};
 ghost use Rattle.wm_sight.specs.Operands.{Misses, Boxes};
+ghost use Rattle.wm_sight.specs.Ranges as ranges;
+ghost use Rattle.wm_sight.specs.Sums as sums;
+ghost use Rattle.wm_sight.specs.Sights.{HasBox, IsOut, argument_of, tested_of, word_of, form_at, shown_of, AreBoxes, StaysIn, FitsByForm, IsShown, IsTried, IsOperated, IsTested, IsRead, IsSeen};
 
 use crate::forms::is_form;
 use crate::ranges::{cut_range, stays};
@@ -42,6 +46,7 @@ fn operand<D: Domain>(
     requires shape { D.shape_of label.now ≡ shape.now }
     requires order { low ≤ℤ high }
     ensures cut { IfOk result (λ box. MatchOption box (Misses (D.holds label.now) form.now low high) (Boxes (D.holds label.now) form.now low high)) }
+    ensures boxed { IfOk result (λ box. MatchOption box (ranges.HasNoBox (D.holds label.now) form.now low high) (ranges.IsBox (D.holds label.now) form.now low high)) }
 {
     if is_form(variables(shape), form) {
         return Ok(cut_range(label, form, low, high));
@@ -53,6 +58,7 @@ fn operand<D: Domain>(
 pub fn word<D: Domain>(shape: &Shape, label: &D, form: &Form) -> Result<Option<Interval>, NoMemory>
     requires shape { D.shape_of label.now ≡ shape.now }
     ensures cut { IfOk result (λ box. MatchOption box (Misses (D.holds label.now) form.now (negsuc 2147483647) (pos 2147483647)) (Boxes (D.holds label.now) form.now (negsuc 2147483647) (pos 2147483647))) }
+    ensures boxed { IfOk result (λ box. MatchOption box (IsOut (D.holds label.now) (word_of form.now)) (HasBox (D.holds label.now) (word_of form.now))) }
 {
     operand(shape, label, form, -2_147_483_648, 2_147_483_647)
 }
@@ -67,6 +73,7 @@ pub fn form_stays<D: Domain>(
 ) -> Result<bool, NoMemory>
     requires shape { D.shape_of label.now ≡ shape.now }
     ensures stays { IfOk result (λ stays. stays ≡ true → (p : Point) → D.holds label.now p → Within low high (form_value p.values form.now)) }
+    ensures exact { IfOk result (λ stays. (stays ≡ true) ↔ ranges.Stays (D.holds label.now) form.now low high) }
 {
     if is_form(variables(shape), form) {
         return Ok(stays(label, form, low, high));
@@ -75,7 +82,9 @@ pub fn form_stays<D: Domain>(
 }
 
 /// What the first failing values make of an edge: it is fine where there are none, or where a form stays in its limits.
-fn shown(fits: bool, operands: u32, boxes: [Interval; 3], values: Option<[i64; 3]>) -> Seen {
+fn shown(fits: bool, operands: u32, boxes: [Interval; 3], values: Option<[i64; 3]>) -> Seen
+    ensures { result ≡ shown_of fits operands boxes values }
+{
     match values {
         None => Seen::Fine,
         Some(values) => {
@@ -103,6 +112,7 @@ pub fn argument<D: Domain>(
     requires shape { D.shape_of label.now ≡ shape.now }
     requires place { k < 3 }
     ensures fits { IfOk result (λ box. MatchOption box (Unit {0}) (λ box. FitsAt op k box.low × FitsAt op k box.high)) }
+    ensures boxed { IfOk result (λ box. MatchOption box (IsOut (D.holds label.now) (argument_of op k form.now)) (HasBox (D.holds label.now) (argument_of op k form.now))) }
 {
     if k >= arity(op) {
         return Ok(Some(Interval { low: 0, high: 0 }));
@@ -124,6 +134,7 @@ fn sum_stays<D: Domain>(
     high: i64,
 ) -> Result<bool, NoMemory>
     requires shape { D.shape_of label.now ≡ shape.now }
+    ensures { IfOk result (λ fits. (fits ≡ true) ↔ StaysIn (D.holds label.now) (sums.sum_of (form_at args.now 0) turn (form_at args.now 1)) low high) }
 {
     match sum_of(alloc, &args[0], turn, &args[1])? {
         None => Ok(false),
@@ -140,6 +151,7 @@ fn stays_by_form<D: Domain>(
     args: &[Form; 3],
 ) -> Result<bool, NoMemory>
     requires shape { D.shape_of label.now ≡ shape.now }
+    ensures { IfOk result (λ fits. (fits ≡ true) ↔ FitsByForm op (D.holds label.now) args.now) }
 {
     if op == Op::Add {
         return sum_stays(alloc, shape, label, args, false, -32_768, 32_767);
@@ -173,20 +185,16 @@ fn stays_by_form<D: Domain>(
 }
 
 /// The operator with its boxes.
-fn applied<D: Domain>(
-    alloc: Global,
-    shape: &Shape,
-    label: &D,
-    op: Op,
-    args: &[Form; 3],
-    boxes: [Interval; 3],
-) -> Result<Seen, NoMemory>
-    requires shape { D.shape_of label.now ≡ shape.now }
-    requires types { TrialFits (Applies op) (box_at (Applies op) boxes 0) (box_at (Applies op) boxes 1) (box_at (Applies op) boxes 2) }
+fn applied(op: Op, x: Interval, y: Interval, z: Interval, fits: bool) -> Seen
+    requires types { TrialFits (Applies op) (box_at (Applies op) (x ∷ y ∷ z ∷ []) 0) (box_at (Applies op) (x ∷ y ∷ z ∷ []) 1) (box_at (Applies op) (x ∷ y ∷ z ∷ []) 2) }
+    requires first { box_at (Applies op) (x ∷ y ∷ z ∷ []) 0 ≡ x }
+    requires second { box_at (Applies op) (x ∷ y ∷ z ∷ []) 1 ≡ y }
+    requires third { box_at (Applies op) (x ∷ y ∷ z ∷ []) 2 ≡ z }
+    ensures { IsShown (Applies op) (fits ≡ true) x y z result }
 {
+    let boxes = [x, y, z];
     let values = first_failing(Trial::Applies(op), &boxes);
-    let fits = stays_by_form(alloc, shape, label, op, args)?;
-    Ok(shown(fits, arity(op) as u32, boxes, values))
+    shown(fits, arity(op) as u32, boxes, values)
 }
 
 #[tactic(auto, using(crate::proofs::Fitting::boxes_fit))]
@@ -198,6 +206,7 @@ fn operated<D: Domain>(
     args: &[Form; 3],
 ) -> Result<Seen, NoMemory>
     requires shape { D.shape_of label.now ≡ shape.now }
+    ensures { IfOk result (λ seen. IsOperated (D.holds label.now) op args.now seen) }
 {
     match argument(shape, label, op, 0, &args[0])? {
         None => Ok(Seen::Away),
@@ -205,10 +214,24 @@ fn operated<D: Domain>(
             None => Ok(Seen::Away),
             Some(y) => match argument(shape, label, op, 2, &args[2])? {
                 None => Ok(Seen::Away),
-                Some(z) => applied(alloc, shape, label, op, args, [x, y, z]),
+                Some(z) => {
+                    let fits = stays_by_form(alloc, shape, label, op, args)?;
+                    Ok(applied(op, x, y, z, fits))
+                }
             },
         },
     }
+}
+
+/// A plain operation on numbers of two boxes of 32 bits.
+fn plain(mark: PlainMark, x: Interval, y: Interval, fits: bool) -> Seen
+    requires first { IsBox32 x }
+    requires second { IsBox32 y }
+    ensures { IsShown (Computes mark) (fits ≡ true) x y zero_box result }
+{
+    let boxes = [x, y, Interval { low: 0, high: 0 }];
+    let values = first_failing(Trial::Computes(mark), &boxes);
+    shown(fits, 2, boxes, values)
 }
 
 /// A plain operation on two operands of 32 bits, which is fine where `fits`.
@@ -221,22 +244,34 @@ fn computed<D: Domain>(
     fits: bool,
 ) -> Result<Seen, NoMemory>
     requires shape { D.shape_of label.now ≡ shape.now }
+    ensures { IfOk result (λ seen. IsTried (Computes mark) (fits ≡ true) (D.holds label.now) (word_of a.now) (word_of b.now) None seen) }
 {
     match word(shape, label, a)? {
         None => Ok(Seen::Away),
         Some(x) => match word(shape, label, b)? {
             None => Ok(Seen::Away),
-            Some(y) => {
-                let boxes = [x, y, Interval { low: 0, high: 0 }];
-                let values = first_failing(Trial::Computes(mark), &boxes);
-                Ok(shown(fits, 2, boxes, values))
-            }
+            Some(y) => Ok(plain(mark, x, y, fits)),
         },
     }
 }
 
+/// A plain operation, as an edge has it.
+fn plain_edge<D: Domain>(
+    shape: &Shape,
+    label: &D,
+    mark: PlainMark,
+    args: &[Form; 2],
+) -> Result<Seen, NoMemory>
+    requires shape { D.shape_of label.now ≡ shape.now }
+    ensures { IfOk result (λ seen. IsTried (Computes mark) ⊥ (D.holds label.now) (word_of (form_at args.now 0)) (word_of (form_at args.now 1)) None seen) }
+{
+    computed(shape, label, mark, &args[0], &args[1], false)
+}
+
 /// A number that has to stay from `low` to `high`.
-fn ranged(x: Interval, low: i64, high: i64, fits: bool) -> Seen {
+fn ranged(x: Interval, low: i64, high: i64, fits: bool) -> Seen
+    ensures { IsShown (Stays low high) (fits ≡ true) x zero_box zero_box result }
+{
     let zero = Interval { low: 0, high: 0 };
     let boxes = [x, zero, zero];
     let values = first_failing(Trial::Stays { low, high }, &boxes);
@@ -246,6 +281,7 @@ fn ranged(x: Interval, low: i64, high: i64, fits: bool) -> Seen {
 /// A number of 32 bits with the other sign.
 fn negated(x: Interval, fits: bool) -> Seen
     requires { IsBox32 x }
+    ensures { IsShown Negates (fits ≡ true) x zero_box zero_box result }
 {
     let zero = Interval { low: 0, high: 0 };
     let boxes = [x, zero, zero];
@@ -261,6 +297,7 @@ fn tested_box<D: Domain>(
     form: &Form,
 ) -> Result<Option<Interval>, NoMemory>
     requires shape { D.shape_of label.now ≡ shape.now }
+    ensures { IfOk result (λ box. MatchOption box (IsOut (D.holds label.now) (tested_of kind form.now)) (HasBox (D.holds label.now) (tested_of kind form.now))) }
 {
     match kind {
         SiteKind::Operator(_op) => word(shape, label, form),
@@ -282,6 +319,7 @@ fn tested_itself<D: Domain>(
     fits: bool,
 ) -> Result<Seen, NoMemory>
     requires shape { D.shape_of label.now ≡ shape.now }
+    ensures { IfOk result (λ seen. IsTried (Stays low high) (fits ≡ true) (D.holds label.now) (tested_of kind operand.now) None None seen) }
 {
     match tested_box(kind, shape, label, operand)? {
         None => Ok(Seen::Away),
@@ -296,6 +334,7 @@ fn tested_negative<D: Domain>(
     fits: bool,
 ) -> Result<Seen, NoMemory>
     requires shape { D.shape_of label.now ≡ shape.now }
+    ensures { IfOk result (λ seen. IsTried Negates (fits ≡ true) (D.holds label.now) (word_of operand.now) None None seen) }
 {
     match word(shape, label, operand)? {
         None => Ok(Seen::Away),
@@ -304,7 +343,9 @@ fn tested_negative<D: Domain>(
 }
 
 /// The operand at a place; a test without it, which no graph of a program has, is refused.
-fn at(args: &[Form], k: usize) -> Result<&Form, NoMemory> {
+fn at(args: &[Form], k: usize) -> Result<&Form, NoMemory>
+    ensures { IfOk result (λ form. form.now ≡ form_at args.now k) }
+{
     match args.get(k) {
         Some(form) => Ok(form),
         None => Err(NoMemory),
@@ -323,6 +364,7 @@ fn tested<D: Domain>(
     fits: bool,
 ) -> Result<Seen, NoMemory>
     requires shape { D.shape_of label.now ≡ shape.now }
+    ensures { IfOk result (λ seen. IsTested kind (fits ≡ true) (D.holds label.now) args.now low high how seen) }
 {
     match how {
         Combined::Itself => tested_itself(kind, shape, label, at(args, 0)?, low, high, fits),
@@ -348,12 +390,34 @@ fn tested<D: Domain>(
     }
 }
 
+/// A test, as an edge has it: it is fine where its form stays from `low` to `high`.
+fn test_edge<D: Domain>(
+    kind: SiteKind,
+    shape: &Shape,
+    label: &D,
+    args: &[Form],
+    form: &Form,
+    low: i64,
+    high: i64,
+    how: Combined,
+) -> Result<Seen, NoMemory>
+    requires shape { D.shape_of label.now ≡ shape.now }
+    ensures { IfOk result (λ seen. IsTested kind (ranges.Stays (D.holds label.now) form.now low high) (D.holds label.now) args.now low high how seen) }
+{
+    let fits = form_stays(shape, label, form, low, high)?;
+    tested(kind, shape, label, args, low, high, how, fits)
+}
+
 /// A read of an array.
 fn read<D: Domain>(shape: &Shape, label: &D, array: u32) -> Result<Seen, NoMemory>
     requires shape { D.shape_of label.now ≡ shape.now }
+    ensures { IfOk result (λ seen. IsRead (D.holds label.now) array seen) }
 {
     if array as usize >= shape.arrays.items().len() {
         return Err(NoMemory);
+    }
+    if label.is_empty() {
+        return Ok(Seen::Away);
     }
     match label.array(array) {
         None => Ok(Seen::Away),
@@ -374,12 +438,11 @@ pub fn look<D: Domain>(
     label: &D,
 ) -> Result<Seen, NoMemory>
     requires shape { D.shape_of label.now ≡ shape.now }
+    ensures seen { IfOk result (λ seen. IsSeen kind (D.holds label.now) action.now seen) }
 {
     match action {
         Action::AssignForm { .. } => Ok(Seen::Away),
-        Action::Plain { mark, args, .. } => {
-            computed(shape, label, *mark, &args[0], &args[1], false)
-        }
+        Action::Plain { mark, args, .. } => plain_edge(shape, label, *mark, args),
         Action::Cast { .. } => Ok(Seen::Away),
         Action::AssignRange { .. } => Ok(Seen::Away),
         Action::SetArray { .. } => Ok(Seen::Away),
@@ -394,10 +457,7 @@ pub fn look<D: Domain>(
             low,
             high,
             how,
-        } => {
-            let fits = form_stays(shape, label, form, *low, *high)?;
-            tested(kind, shape, label, args.items(), *low, *high, *how, fits)
-        }
+        } => test_edge(kind, shape, label, args.items(), form, *low, *high, *how),
         Action::Count { .. } => Ok(Seen::Away),
         Action::Enter { .. } => Ok(Seen::Away),
         Action::Leave { .. } => Ok(Seen::Away),
