@@ -1,8 +1,9 @@
 // The shape of the variables between, and the way back to the callee.
-ghost use Rattle.std.specs.Prelude.{◌≡◌, ◌<◌, ◌≤◌, ◌^◌, ℕ, length, slice_index_or, None, IfOk};
+ghost use Rattle.std.specs.Prelude.{◌≡◌, ◌<◌, ◌≤◌, ◌^◌, ℕ, length, slice_index_or, None, IfOk, MatchOption};
 ghost use Rattle.wm_domain.specs.Points.{range_at};
 ghost use Rattle.wm_domain.specs.States.{IsShape};
-ghost use Rattle.wm_middle.specs.Parting.{AreWords, IsMiddle, IsBack};
+ghost use Rattle.wm_middle.specs.Parting.{AreWords, IsMiddle, IsBack, part_at};
+ghost use Rattle.wm_middle.specs.declared.parts.Part.TheVariants.{Parameter};
 
 use crate::middle::Middle;
 use crate::parts::{Part, find_among, find_next};
@@ -69,15 +70,43 @@ fn picked_place(parts: &[Part], v: u32, pick: Option<u32>, next: usize) -> Optio
     }
 }
 
-// the place from which a variable of the callee comes; parameters stand in the group, among the first 32
-fn back_of(parts: &[Part], v: u32, pick: Option<u32>, next: usize) -> Option<u32>
+// the place of a parameter; parameters stand in the group, among the first 32, and their numbers lie below `most`
+fn parameter_place(parts: &[Part], v: u32, most: u32) -> Option<u32>
+    requires few { length parts.now < 2 ^ 32 }
+    ensures { MatchOption result (Unit {0}) (λ k. (k < length parts.now) × (part_at parts.now k ≡ Parameter v)) }
+{
+    if v >= most {
+        return None;
+    }
+    find_among(parts, parts.len().min(32), Part::Parameter(v))
+}
+
+// the place from which a variable of the callee comes
+fn back_of(parts: &[Part], v: u32, pick: Option<u32>, next: usize, most: u32) -> Option<u32>
     requires few { length parts.now < 2 ^ 32 }
     ensures { IsBack parts.now v pick result }
 {
-    match find_among(parts, parts.len().min(32), Part::Parameter(v)) {
+    match parameter_place(parts, v, most) {
         Some(place) => Some(place),
         None => picked_place(parts, v, pick, next),
     }
+}
+
+// a number above that of a part, where it is a parameter
+fn above(part: Part, most: u32) -> u32 {
+    match part {
+        Part::Caller(_v) => most,
+        Part::Parameter(v) => most.max(v.saturating_add(1)),
+    }
+}
+
+// a number above those of all parameters among the first 32
+fn above_all(parts: &[Part]) -> u32 {
+    let mut most = 0;
+    for k in 0..parts.len().min(32) {
+        most = above(parts[k], most);
+    }
+    most
 }
 
 // the place behind all that were found
@@ -100,9 +129,10 @@ pub fn backs(
     ensures each { IfOk result (λ places. (v : ℕ) → v < length picks.now → IsBack parts.now v (slice_index_or picks.now v None) (slice_index_or places.items v None)) }
 {
     let mut places = vec![in alloc; None; picks.len()]?;
+    let most = above_all(parts);
     let mut next = 0;
     for v in 0..picks.len() {
-        let place = back_of(parts, v as u32, picks[v], next);
+        let place = back_of(parts, v as u32, picks[v], next, most);
         places[v] = place;
         next = behind(place, next);
     }

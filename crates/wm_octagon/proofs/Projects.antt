@@ -15,7 +15,7 @@ use Rattle.wm_octagon.specs.Ways.{at}
 use Rattle.wm_octagon.specs.Points.{side_value, IsPoint, IsTight, Attains, LeastOctagon}
 use Rattle.wm_octagon.specs.Changes.{apart}
 use Rattle.wm_octagon.specs.Ranges.{IsNarrow, InRanges, low_of, high_of, range_top, end_of}
-use Rattle.wm_octagon.specs.Projecting.{picked, side_by, source, top_by, drawn_top, between, projected, IsPicked, ProjectedOf}
+use Rattle.wm_octagon.specs.Projecting.{picked, side_by, source, top_by, drawn_top, between, projected, IsPicked, ProjectedOf, IsOwn}
 use Rattle.wm_octagon.specs.View as view
 use Rattle.wm_octagon.specs.View.{OctagonView, IsBoxed, IsKept}
 use Rattle.wm_octagon.proofs.Rows.{entry-table}
@@ -314,3 +314,41 @@ project-half h n xs keep rs old tops e named t =
 -- an octagon without points leaves none
 pub nothing_made : (o : OctagonView) (keep : List (Option ℕ)) (rs : List Interval) → o.bounds ≡ None → (x : ℕ → ℤ) → ProjectedOf o keep rs x → ⊥
 nothing_made o keep rs e x p = subst (λ b. view.PointOf o.variables b p.was) e p.point
+
+-- ---- all variables at their own places
+
+own-side : (x was : ℕ → ℤ) (k : ℕ) → x (k / 2) ≡ was (k / 2) → side_value x k ≡ side_value was k
+own-side x was k h = elim (even_or_odd k) [
+  | inl e ↦ side_value-even x k e ∙ h ∙ sym (side_value-even was k e)
+  | inr e ↦ side_value-odd x k e ∙ ap neg_ℤ h ∙ sym (side_value-odd was k e)
+]
+
+own_value : (p : Option ℕ) (low high : ℤ) (was : ℕ → ℤ) (v : ℕ) (z : ℤ) → p ≡ Some v → IsPicked p low high was z → z ≡ was v
+own_value p low high was v z e h = subst (λ (q : Option ℕ). IsPicked q low high was z) e h
+
+own_is : (n : ℕ) (xs : List ℤ) (keep : List (Option ℕ)) (rs : List Interval) (x : ℕ → ℤ) → IsOwn keep (2 * n) → IsPoint n xs x → Made n xs keep rs x
+own_is n xs keep rs x o p = record {
+  was = x;
+  point = p;
+  each = λ v hv. subst (λ (q : Option ℕ). IsPicked q (low_of rs v) (high_of rs v) x (x v)) (sym (o.each v hv)) refl;
+}
+
+-- what is left where all variables are picked at their own places is the octagon itself
+pub own-least : (n : ℕ) (xs : List ℤ) (keep : List (Option ℕ)) (rs : List Interval) → IsTight n xs → IsOwn keep (2 * n)
+    → LeastOctagon n (ProjectedOf (record { variables = n; bounds = Some xs }) keep rs) xs
+own-least n xs keep rs t o = record {
+  some = t.point;
+  some_is = own_is n xs keep rs t.point o t.is_point;
+  holds = λ x p. record {
+    meets = λ k l hk here.
+        let long = o.long in
+        let hl = column-lt n k l hk here in
+        let half_k : k / 2 < length keep = omega arith in
+        let half_l : l / 2 < length keep = omega arith in
+        let s = own-side x p.was k (own_value (picked keep (k / 2)) (low_of rs (k / 2)) (high_of rs (k / 2)) p.was (k / 2) (x (k / 2)) (o.each (k / 2) half_k) (p.each (k / 2) half_k)) in
+        let t = own-side x p.was l (own_value (picked keep (l / 2)) (low_of rs (l / 2)) (high_of rs (l / 2)) p.was (l / 2) (x (l / 2)) (o.each (l / 2) half_l) (p.each (l / 2) half_l)) in
+        let m = p.point.meets k l hk here in
+        omega (arith, ints);
+  };
+  attained = λ k l hk here. let a = t.attained k l hk here in record { x = a.x; is = own_is n xs keep rs a.x o a.is; gives = a.gives };
+}

@@ -45,3 +45,12 @@ pub record ProjectedOf (o : OctagonView) (keep : List (Option ℕ)) (rs : List I
   pub was : ℕ → ℤ
   pub point : Holds o was
   pub each : (v : ℕ) → v < length keep → IsPicked (picked keep v) (low_of rs v) (high_of rs v) was (x v)
+
+-- each place picks the variable of its own number
+abbrev pub ArePicked : List (Option ℕ) → Type 0
+ArePicked keep = (v : ℕ) → v < length keep → picked keep v ≡ Some v
+
+-- the places pick all variables of an octagon that has so many sides, each its own
+pub record IsOwn (keep : List (Option ℕ)) (sides : ℕ) : Type 0 where
+  pub long : 2 * length keep ≡ sides
+  pub each : ArePicked keep

@@ -99,8 +99,8 @@ impl Half {
         all_below(self.bounds.as_slice(), other.bounds.as_slice())
     }
 
-    // each entry is 0
-    fn zero(alloc: Global, variables: usize) -> Result<Half, NoMemory>
+    /// So many variables, at most 32, and each entry 0. `NoMemory`: memory ran out.
+    pub(crate) fn zero(alloc: Global, variables: usize) -> Result<Half, NoMemory>
         requires { variables ≤ 32 }
         ensures { IfOk result (λ h. h.variables ≡ variables) }
     {

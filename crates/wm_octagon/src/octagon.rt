@@ -11,7 +11,7 @@ use crate::assigning::Assigning;
 use crate::changes::Loosening;
 use crate::half::{Half, halved};
 use crate::layout::{MOST_SIDES, opposite, row_len};
-use crate::projecting::{Projecting, drawn_tops};
+use crate::projecting::{Projecting, drawn_tops, is_own};
 use std::alloc::Global;
 use std::marker::Model;
 use wm_interval::Interval;
@@ -286,10 +286,21 @@ impl Octagon {
         ensures variables { IfOk result (λ o. o.variables ≡ length keep.now) }
         ensures least { IfOk result (λ o. IsLeast o (ProjectedOf self.now keep.now ranges.now)) }
     {
-        let mut half = Half::new(alloc, ranges)?;
         if self.empty {
-            return Ok(Octagon { half, empty: true });
+            let none = Half::zero(alloc, keep.len())?;
+            return Ok(Octagon {
+                half: none,
+                empty: true,
+            });
         }
+        if is_own(keep, self.half.sides()) {
+            let same = self.half.copy(alloc)?;
+            return Ok(Octagon {
+                half: same,
+                empty: false,
+            });
+        }
+        let mut half = Half::zero(alloc, keep.len())?;
         let change = Projecting {
             half: &self.half,
             keep,

@@ -1,12 +1,12 @@
 //! Picked variables of an octagon, beside others that have any number of a range.
 
-ghost use Rattle.std.specs.Prelude.{◌≡◌, ℕ, ◌*◌, ◌/◌, ◌<◌, ◌≤◌, length, All, IfSome};
+ghost use Rattle.std.specs.Prelude.{◌≡◌, ℕ, ◌*◌, ◌/◌, ◌<◌, ◌≤◌, length, All, IfSome, Some, true};
 ghost use Rattle.std.proofs.Props.{props};
 ghost use Rattle.wm_octagon.specs.Layout.{bound};
 ghost use Rattle.wm_octagon.specs.Changes.{apart};
 ghost use Rattle.wm_octagon.specs.HalfTable.{IsSmall};
 ghost use Rattle.wm_octagon.specs.Medium.{Filled};
-ghost use Rattle.wm_octagon.specs.Projecting.{side_by, source, top_by, drawn_top, projected};
+ghost use Rattle.wm_octagon.specs.Projecting.{side_by, source, top_by, drawn_top, projected, ArePicked, IsOwn};
 ghost use Rattle.wm_octagon.specs.Ranges.{IsNarrow, end_of};
 ghost use Rattle.wm_octagon.specs.Ways.{at, AllSmall};
 
@@ -71,6 +71,39 @@ impl Projecting<'_> {
         }
         plus(self.tops[opposite(k)], self.tops[l])
     }
+}
+
+// whether a place picks the variable of its own number
+fn is_here(pick: Option<usize>, place: usize) -> bool
+    ensures { result ≡ true → pick ≡ Some place }
+{
+    match pick {
+        None => false,
+        Some(v) => v == place,
+    }
+}
+
+// whether each place picks the variable of its own number
+fn are_here(keep: &[Option<usize>]) -> bool
+    ensures { result ≡ true → ArePicked keep.now }
+{
+    for k in 0..keep.len() {
+        if !is_here(keep[k], k) {
+            return false;
+        }
+    }
+    true
+}
+
+/// Whether the places pick all variables of an octagon that has so many sides, each its own.
+pub(crate) fn is_own(keep: &[Option<usize>], sides: usize) -> bool
+    requires few { length keep.now ≤ 32 }
+    ensures { result ≡ true → IsOwn keep.now sides }
+{
+    if 2 * keep.len() != sides {
+        return false;
+    }
+    are_here(keep)
 }
 
 /// The greatest value of each side: that of the picked variable's side in `old`, or the end of its range.

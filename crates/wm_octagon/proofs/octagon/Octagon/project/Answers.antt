@@ -1,13 +1,13 @@
-use Rattle.std.proofs.Common.{◌≡◌, ◌∙◌, ◌*◌, ◌<◌, Some, false, length, sym, subst, ap, arith}
+use Rattle.std.proofs.Common.{◌≡◌, ◌∙◌, ◌*◌, ◌<◌, Some, false, length, refl, sym, subst, ap, arith}
 use Rattle.std.specs.Prelude.{All, IfSome}
 use Rattle.wm_octagon.specs.HalfTable.{HalfTable, IsSmall}
 use Rattle.wm_octagon.specs.Layout.{bound, table}
 use Rattle.wm_octagon.specs.Closing.{top}
-use Rattle.wm_octagon.specs.Projecting.{drawn_top, projected, ProjectedOf}
+use Rattle.wm_octagon.specs.Projecting.{drawn_top, projected, ProjectedOf, IsOwn}
 use Rattle.wm_octagon.specs.View.{OctagonView, LeastOf, IsKept}
 use Rattle.wm_octagon.proofs.Octagons.{opened}
 use Rattle.wm_octagon.proofs.OctagonJoins.{no_bounds}
-use Rattle.wm_octagon.proofs.Projects.{AreNamed, TwoTops, named_of, project-value, project-small, project-half, project-kept, project-least, nothing_made}
+use Rattle.wm_octagon.proofs.Projects.{AreNamed, TwoTops, named_of, project-value, project-small, project-half, project-kept, project-least, own-least, nothing_made}
 use Rattle.wm_octagon.proofs.octagon.Octagon.project.Goals as goal
 
 pub change-requires-clause-sized : goal.change-requires-clause-sized
@@ -17,7 +17,7 @@ change-requires-clause-sized c = λ k l hk here.
     let keep = c.args.keep.now in
     let rs = c.args.ranges.now in
     let same = ap (λ (o : OctagonView). o.variables) c.self.view_is in
-    let many : c.in_ok-half.half.variables ≡ length keep = ap (λ (h : HalfTable). h.variables) c.in_ok-half.ensures.list ∙ c.requires.long in
+    let many : c.in_ok-half.half.variables ≡ length keep = c.in_ok-half.ensures in
     let named = named_of n keep (subst (λ m. All (λ p. IfSome p (λ v. v < m)) keep) (sym same) c.requires.named) in
     let two : TwoTops n xs keep rs c.tops.result c.drawn_tops.result = record { before = c.tops.ensures.value; after = c.drawn_tops.ensures.value } in
     let k_in : k < 2 * length keep = omega arith in
@@ -33,7 +33,7 @@ list c =
     let two : TwoTops c.self.inside.half.variables c.self.inside.half.bounds c.args.keep.now c.args.ranges.now c.tops.result c.drawn_tops.result = record { before = c.tops.ensures.value; after = c.drawn_tops.ensures.value } in
     c.change.ensures
     ∙ project-half c.in_ok-half.half c.self.inside.half.variables c.self.inside.half.bounds c.args.keep.now c.args.ranges.now c.tops.result c.drawn_tops.result
-    (ap (λ (h : HalfTable). h.variables) c.in_ok-half.ensures.list ∙ c.requires.long) (named c) two
+    c.in_ok-half.ensures (named c) two
 
 pub returns-then-self-clause-least : goal.returns-then-self-clause-least
 returns-then-self-clause-least c =
@@ -51,3 +51,11 @@ returns-clause-least c =
     subst (λ (h : HalfTable). LeastOf h.variables (Some h.bounds) (ProjectedOf c.args.self.now c.args.keep.now c.args.ranges.now)) (sym (list c))
     (subst (λ (o : OctagonView). LeastOf (length c.args.keep.now) (Some (table (2 * length c.args.keep.now) (projected c.args.keep.now (drawn_top c.args.keep.now c.args.ranges.now (top (bound c.self.inside.half.bounds))) (bound c.self.inside.half.bounds)))) (ProjectedOf o c.args.keep.now c.args.ranges.now)) view
     (project-least c.self.inside.half.variables c.self.inside.half.bounds c.args.keep.now c.args.ranges.now (c.self.invariant.tight c.if-self.false) c.requires.long (named c)))
+
+pub returns-then-is_own-clause-least : goal.returns-then-is_own-clause-least
+returns-then-is_own-clause-least c =
+    let view = opened c.self.inside.half.variables c.self.inside.half.bounds c.self.inside.empty c.args.self.now c.if-self.false c.self.view_is in
+    let own : IsOwn c.args.keep.now (2 * c.self.inside.half.variables) = subst (IsOwn c.args.keep.now) c.sides.ensures.value (c.if-is_own.ensures refl) in
+    subst (λ (h : HalfTable). LeastOf h.variables (Some h.bounds) (ProjectedOf c.args.self.now c.args.keep.now c.args.ranges.now)) (sym c.in_ok-same.ensures)
+    (subst (λ (o : OctagonView). LeastOf c.self.inside.half.variables (Some c.self.inside.half.bounds) (ProjectedOf o c.args.keep.now c.args.ranges.now)) view
+    (own-least c.self.inside.half.variables c.self.inside.half.bounds c.args.keep.now c.args.ranges.now (c.self.invariant.tight c.if-self.false) own))
