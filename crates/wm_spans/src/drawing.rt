@@ -1,9 +1,9 @@
 // Ranges and summaries that begin anew, with some arrays of older ones.
 
-ghost use Rattle.std.specs.Prelude.{◌≡◌, ℕ, ◌<◌, ◌++◌, length, slice_index_or, Option, Some, None, IfOk, All};
+ghost use Rattle.std.specs.Prelude.{◌≡◌, ℕ, ◌<◌, ◌++◌, length, slice_index_or, Option, Some, None, IfOk, All, false};
 ghost use Rattle.wm_domain.specs.Points.{IsNarrow, range_at};
 ghost use Rattle.wm_domain.specs.Changes.{Projected, ArePicks};
-ghost use Rattle.wm_spans.specs.Spanned.{cell_at};
+ghost use Rattle.wm_spans.specs.Spanned.{cell_at, Lies};
 ghost use Rattle.wm_spans.specs.Exact.{IsDrawnAt};
 
 use crate::spans::{Spans, fitted};
@@ -55,6 +55,33 @@ impl Spans {
     {
         let cells = self.drawn(alloc, arrays, picks)?;
         let spans = Spans::begin(alloc, first, second, arrays, cells)?;
+        Ok(spans)
+    }
+
+    /// Where variable k has any number of `ranges[k]`, which lies in its full range, and array k has what the set cells of array
+    /// `picks[k]` hold that lies in its full range, or no set cell where that is None. `NoMemory`: memory ran out.
+    pub fn with_ranges(
+        &self,
+        alloc: Global,
+        full: &[Interval],
+        ranges: Vec<Interval>,
+        arrays: &[Interval],
+        picks: &[Option<u32>],
+    ) -> Result<Spans, NoMemory>
+        requires narrow { All IsNarrow full.now }
+        requires ranges_long { length ranges.items ≡ length full.now }
+        requires lies { (v : ℕ) → v < length full.now → Lies (range_at full.now v) (range_at ranges.items v) }
+        requires long { length picks.now ≡ length arrays.now }
+        requires named { (k a : ℕ) → slice_index_or picks.now k None ≡ Some a → a < length self.now.array_full }
+        ensures full { IfOk result (λ s. s.full ≡ full.now) }
+        ensures array_full { IfOk result (λ s. s.array_full ≡ arrays.now) }
+        ensures ranges { IfOk result (λ s. s.ranges ≡ ranges.items) }
+        ensures some { IfOk result (λ s. s.empty ≡ false) }
+        ensures cells { IfOk result (λ s. (a : ℕ) → a < length arrays.now → IsDrawnAt (cell_at self.now.cells) (slice_index_or picks.now a None) (range_at arrays.now a) (cell_at s.cells a)) }
+        ensures kept { IfOk result (λ s. Kept s) }
+    {
+        let cells = self.drawn(alloc, arrays, picks)?;
+        let spans = Spans::laid(alloc, full, ranges, arrays, cells)?;
         Ok(spans)
     }
 

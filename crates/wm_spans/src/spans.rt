@@ -248,6 +248,33 @@ impl Spans {
         })
     }
 
+    // the full ranges, and these ranges and summaries within those of the variables and of the arrays
+    pub(crate) fn laid(
+        alloc: Global,
+        full: &[Interval],
+        ranges: Vec<Interval>,
+        arrays: &[Interval],
+        cells: Vec<Summary>,
+    ) -> Result<Spans, NoMemory>
+        requires narrow { All IsNarrow full.now }
+        requires ranges_long { length ranges.items ≡ length full.now }
+        requires lies { (v : ℕ) → v < length full.now → Lies (range_at full.now v) (range_at ranges.items v) }
+        requires long { length cells.items ≡ length arrays.now }
+        requires cells_lie { (a : ℕ) → a < length arrays.now → CellsLie (range_at arrays.now a) (cell_at cells.items a) }
+        ensures value { IfOk result (λ s. s ≡ record { full = full.now; array_full = arrays.now; ranges = ranges.items; cells = cells.items; empty = false }) }
+        ensures kept { IfOk result (λ s. Kept s) }
+    {
+        let whole = Vec::from_slice(alloc, full)?;
+        let array_full = Vec::from_slice(alloc, arrays)?;
+        Ok(Spans {
+            full: whole,
+            array_full,
+            ranges,
+            cells,
+            empty: false,
+        })
+    }
+
     /// The same once more. `NoMemory`: memory ran out.
     pub fn copy(&self, alloc: Global) -> Result<Spans, NoMemory>
         ensures same { IfOk result (λ s. s ≡ self.now) }
