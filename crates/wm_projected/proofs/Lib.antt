@@ -2,3 +2,4 @@ pub mod Turns
 pub mod Equal
 pub mod Staying
 pub mod Picked
+pub mod Laying
