@@ -19,6 +19,8 @@ impl Domain for Boxes {
     ghost use Rattle.wm_spans.specs.Spanned.{In};
     ghost use Rattle.wm_boxes.specs.Shapes.{shape_at};
     ghost use Rattle.wm_boxes.specs.Laws.{boxes_inside, boxes_alike, boxes_told};
+    ghost use Rattle.wm_boxes.specs.Bounded.{boxes_capped, capped_shape, boxes_closed};
+    ghost use Rattle.wm_domain.specs.Bounds.{Meets};
 
     const PAIRS: bool = false;
 
@@ -137,4 +139,8 @@ impl Domain for Boxes {
     ghost alike = { λ b p q a h. boxes_alike b.group b.spans p q a h };
 
     ghost told = { λ b p t. boxes_told b.group b.spans p t };
+
+    ghost closed = { λ b p all. boxes_closed b.group b.spans p all };
+
+    ghost cuts = { λ b p h c ok. let it = boxes_capped b.group b.spans p h c ok in record { state = record { group = b.group; spans = it.to }; same = capped_shape b.group b.spans (Meets c) it; points = it.points } };
 }

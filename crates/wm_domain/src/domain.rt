@@ -7,6 +7,7 @@ ghost use Rattle.wm_arrays.specs.Meaning.{IsLeastFor};
 ghost use Rattle.wm_domain.specs.Points.{Point, Alike, range_at};
 ghost use Rattle.wm_domain.specs.Forms.{IsForm, IsSimple, AreBounded};
 ghost use Rattle.wm_domain.specs.States.{count_of, array_count, IsShape, InShape, IsSized, Keeps, IsLeast, IsBare, IsTold};
+ghost use Rattle.wm_domain.specs.Bounds.{Bound, IsBound, IsCutBy, MeetsAll};
 ghost use Rattle.wm_domain.specs.Changes.{IsUnset, Projected, ArePicks, Kept, Freed, Assigned, Near, ArraySet, Written, InEither, IsValueOf, IsFormValue, IsCellOf};
 
 use crate::{Form, Relation, Shape};
@@ -162,4 +163,10 @@ pub trait Domain: Sized + Drop {
 
     // a state with a point holds all that its ranges, its forms and its summaries allow
     ghost told: { (s : Self) (p : Point) → IsTold PAIRS (shape_of s) (holds s) p → holds s p };
+
+    // a state holds each point that meets all bounds that its points meet
+    ghost closed: { (s : Self) (p : Point) → MeetsAll PAIRS (shape_of s) (holds s) p → holds s p };
+
+    // a state with a point that is cut by one more bound is a state
+    ghost cuts: { (s : Self) (p : Point) → holds s p → (b : Bound) → IsBound PAIRS (shape_of s) b → IsCutBy holds shape_of s b };
 }

@@ -20,6 +20,7 @@ impl Domain for Groups {
     ghost use Rattle.wm_tied.specs.Pointed.{In};
     ghost use Rattle.wm_tied.specs.Pointed as pointed;
     ghost use Rattle.wm_groups.specs.Laws.{groups_inside, groups_alike, groups_told};
+    ghost use Rattle.wm_groups.specs.Capped.{groups_cut, groups_closed};
 
     const PAIRS: bool = true;
 
@@ -133,4 +134,8 @@ impl Domain for Groups {
     ghost alike = { λ g p q a h. groups_alike g.tied p q a h };
 
     ghost told = { λ g p t. groups_told g.tied p t };
+
+    ghost closed = { λ g p all. groups_closed g.tied p all };
+
+    ghost cuts = { λ g p h c ok. let it = groups_cut g.tied p h c ok in record { state = record { tied = it.to }; same = it.same; points = it.points } };
 }

@@ -1,3 +1,4 @@
+pub mod Capping
 pub mod Cutting
 pub mod Ends
 pub mod Few
@@ -9,6 +10,7 @@ pub mod Picked
 pub mod Raised
 pub mod Raising
 pub mod Sizes
+pub mod Stable
 pub mod Summing
 pub mod Turns
 pub mod Writing
