@@ -33,3 +33,33 @@ pub keeps_moved : {S : Type 0} (Holds : S → Point → Type 0) (shape_of : S �
 keeps_moved Holds shape_of state s t Has picks arrays long arrays_long each array_each k = record {
   kept = λ p i m. k.kept p i (projected_of s t Has picks arrays p long arrays_long each array_each m);
 }
+
+-- ---- the other way
+
+of_picked : (o : Option ℕ) (was : Point) (z : ℤ) → IsPicked o was z → Comes was o z
+of_picked None was z h = tt
+of_picked (Some w) was z h = h
+
+-- what is projected from a state follows it
+pub of_projected : (s t : Shape) (Has : Point → Type 0) (picks arrays : List (Option ℕ)) (p : Point) → length picks ≡ length t.group + length t.singles → length arrays ≡ array_count t
+    → ((v : ℕ) → v < length picks → slice_index_or picks v None ≡ origin s t v) → ((a : ℕ) → a < length arrays → slice_index_or arrays a None ≡ array_origin s a)
+    → Projected Has picks arrays p → Moved s t Has [] [] p
+of_projected s t Has picks arrays p long arrays_long each array_each m = record {
+  was = m.was;
+  carried = record {
+    point = m.point;
+    numbers = record {
+      numbers = λ v h none.
+          let hv : v < length picks = subst (λ (n : ℕ). v < n) (count_is t ∙ sym long) h in
+          of_picked (origin s t v) m.was (p.values v) (subst (λ (o : Option ℕ). IsPicked o m.was (p.values v)) (each v hv) (m.numbers v hv));
+    };
+    cells = record {
+      kept = λ a h l none.
+          let ha : a < length arrays = subst (λ (n : ℕ). a < n) (sym arrays_long) h in
+          subst (λ (o : Option ℕ). IsPickedCell o m.was (p.cells a)) (array_each a ha ∙ array_here s a l) (m.cells a ha);
+      new = λ a h g none.
+          let ha : a < length arrays = subst (λ (n : ℕ). a < n) (sym arrays_long) h in
+          subst (λ (o : Option ℕ). IsPickedCell o m.was (p.cells a)) (array_each a ha ∙ array_new s a g) (m.cells a ha);
+    };
+  };
+}

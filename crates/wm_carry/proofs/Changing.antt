@@ -19,7 +19,7 @@ comes_come : (o : Option ℕ) (was : Point) (z : ℤ) → Comes was o (come o wa
 comes_come None was z = tt
 comes_come (Some w) was z = refl
 
-come_held : (s t : Shape) (v : ℕ) (o : Option ℕ) (was p : Point) → IsWay s t → InShape s was → InShape t p → v < count_of t → origin s t v ≡ o → Holds (range_at (variables_of t) v) (come o was (p.values v))
+pub come_held : (s t : Shape) (v : ℕ) (o : Option ℕ) (was p : Point) → IsWay s t → InShape s was → InShape t p → v < count_of t → origin s t v ≡ o → Holds (range_at (variables_of t) v) (come o was (p.values v))
 come_held s t v None was p way i j h e = j.numbers v h
 come_held s t v (Some w) was p way i j h e = subst (λ r. Holds r (was.values w)) (sym (way.alike v w h e)) (i.numbers w (origin_below s t v w e))
 

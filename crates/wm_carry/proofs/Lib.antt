@@ -1,3 +1,6 @@
 pub mod Carrying
 pub mod Changing
+pub mod Exact
+pub mod Extending
 pub mod Ranks
+pub mod Reaching

@@ -12,13 +12,13 @@ side v n = grind arith
 some_of : {x y : ℕ} → Some x ≡ Some y → x ≡ y
 some_of e = cc
 
-none_of : {P : Type 0} {x : ℕ} → None ≡ Some x → P
+pub none_of : {P : Type 0} {x : ℕ} → None ≡ Some x → P
 none_of e = cc
 
-in_here : (first count k : ℕ) → k < count → origin_in first count k ≡ Some (first + k)
+pub in_here : (first count k : ℕ) → k < count → origin_in first count k ≡ Some (first + k)
 in_here first count k h = let e : nat_lt k count ≡ true = grind arith in rw e refl
 
-in_past : (first count k : ℕ) → count ≤ k → origin_in first count k ≡ None
+pub in_past : (first count k : ℕ) → count ≤ k → origin_in first count k ≡ None
 in_past first count k h = let e : nat_lt k count ≡ false = grind arith in rw e refl
 
 -- what comes from somewhere has a rank
@@ -28,11 +28,11 @@ in_some first count k w e = elim (side k count) [
   | inr h ↦ none_of (sym (in_past first count k h) ∙ e)
 ]
 
-in_group : (s t : Shape) (v : ℕ) → v < length t.group → origin s t v ≡ origin_in 0 (length s.group) v
+pub in_group : (s t : Shape) (v : ℕ) → v < length t.group → origin s t v ≡ origin_in 0 (length s.group) v
 unfolding origin
 in_group s t v h = let e : nat_lt v (length t.group) ≡ true = grind arith in rw e refl
 
-in_singles : (s t : Shape) (v : ℕ) → length t.group ≤ v → origin s t v ≡ origin_in (length s.group) (length s.singles) (v - length t.group)
+pub in_singles : (s t : Shape) (v : ℕ) → length t.group ≤ v → origin s t v ≡ origin_in (length s.group) (length s.singles) (v - length t.group)
 unfolding origin
 in_singles s t v h = let e : nat_lt v (length t.group) ≡ false = grind arith in rw e refl
 

@@ -1,6 +1,6 @@
 // A state at the next node, where nothing has changed.
 ghost use Rattle.std.specs.Prelude.{◌≡◌, [], IfOk};
-ghost use Rattle.wm_domain.specs.States.{Keeps};
+ghost use Rattle.wm_domain.specs.States.{Keeps, IsLeast};
 ghost use Rattle.wm_carry.specs.Following.{IsWay, Moved};
 
 use crate::origins::{array_picks, picks};
@@ -15,6 +15,7 @@ pub fn carried<D: Domain>(way: &Way, at: &D) -> Result<D, NoMemory>
     requires shape { D.shape_of at.now ≡ way.now.source.now }
     ensures shape { IfOk result (λ s. D.shape_of s ≡ way.now.target.now) }
     ensures sound { IfOk result (λ s. Keeps D.holds D.shape_of s (Moved way.now.source.now way.now.target.now (D.holds at.now) [] [])) }
+    ensures least { IfOk result (λ s. IsLeast D.holds D.shape_of s (Moved way.now.source.now way.now.target.now (D.holds at.now) [] [])) }
 {
     let picks = picks(way)?;
     let arrays = array_picks(way)?;

@@ -1,9 +1,11 @@
-use Rattle.std.proofs.Common.{ℕ, List, Option, sym, subst}
+use Rattle.std.proofs.Common.{ℕ, List, [], Option, sym, subst}
+use Rattle.wm_carry.specs.Following.{Moved}
 use Rattle.wm_domain.specs.declared.shape.Shape.{Shape}
-use Rattle.wm_domain.specs.States.{count_of, array_count, Keeps}
+use Rattle.wm_domain.specs.States.{count_of, array_count, Keeps, IsLeast}
 use Rattle.wm_domain.specs.Changes.{ArePicks, Projected}
 use Rattle.wm_carry.proofs.Ranks.{are_picks, are_array_picks}
-use Rattle.wm_carry.proofs.Carrying.{keeps_moved}
+use Rattle.wm_carry.proofs.Carrying.{keeps_moved, of_projected}
+use Rattle.wm_carry.proofs.Reaching.{least_as}
 use Rattle.wm_carry.proofs.carry.carried.Goals as goal
 
 pub project-requires-clause-picks : goal.project-requires-clause-picks
@@ -26,3 +28,13 @@ returns-clause-sound g c =
     c.in_ok-picks.ensures.long c.in_ok-arrays.ensures.long c.in_ok-picks.ensures.each c.in_ok-arrays.ensures.each
     (subst (λ (xs : List (Option ℕ)). Keeps g.D.Domain.holds g.D.Domain.shape_of c.in_ok-state.state (Projected Has xs c.in_ok-arrays.arrays.items)) c.deref.ensures.value
     (subst (λ (xs : List (Option ℕ)). Keeps g.D.Domain.holds g.D.Domain.shape_of c.in_ok-state.state (Projected Has c.deref.result.now xs)) c.deref-2.ensures.value c.in_ok-state.ensures.sound))
+
+pub returns-clause-least : goal.returns-clause-least
+returns-clause-least g c =
+    let way = c.args.way.now in
+    let Has = g.D.Domain.holds c.args.at.now in
+    least_as g.D.Domain.holds g.D.Domain.shape_of c.in_ok-state.state (Projected Has c.in_ok-picks.picks.items c.in_ok-arrays.arrays.items) (Moved way.source.now way.target.now Has [] [])
+    (λ p i m. of_projected way.source.now way.target.now Has c.in_ok-picks.picks.items c.in_ok-arrays.arrays.items p
+        c.in_ok-picks.ensures.long c.in_ok-arrays.ensures.long c.in_ok-picks.ensures.each c.in_ok-arrays.ensures.each m)
+    (subst (λ (xs : List (Option ℕ)). IsLeast g.D.Domain.holds g.D.Domain.shape_of c.in_ok-state.state (Projected Has xs c.in_ok-arrays.arrays.items)) c.deref.ensures.value
+    (subst (λ (xs : List (Option ℕ)). IsLeast g.D.Domain.holds g.D.Domain.shape_of c.in_ok-state.state (Projected Has c.deref.result.now xs)) c.deref-2.ensures.value c.in_ok-state.ensures.least))
