@@ -17,11 +17,12 @@ use Rattle.wm_path.specs.declared.choice.Choice.TheOpen.{Choice-F}
 use Rattle.wm_path_laws.specs.Choices.{IsLaidOut, IsLive, Setting, IsLoop, Leads, Meets, AreTurns, IsWithin, last_of, edge_weight, edges_weight, turns_weight, weight_of}
 use Rattle.wm_path_laws.specs.Paths.{IsNotAfter}
 use Rattle.wm_path_laws.specs.Worst.{IsFirstOfGreatest, AreWorst, IsWorstWithin, EachTurns}
+use Rattle.wm_path_laws.proofs.Cuts.{cut_least}
 use Rattle.wm_path_laws.proofs.Leading.{target_in, target_is, way_at, ways_of, way_weight}
 use Rattle.wm_path_laws.proofs.Loops.{added, added_none, field, firsts, marks, mark_tells, number_of, numbers, through}
 use Rattle.wm_path_laws.proofs.Marks.{turning_for}
 use Rattle.wm_path_laws.proofs.Meeting.{entered, no_meets, no_way, node_is}
-use Rattle.wm_path_laws.proofs.Others.{added_behind, below, cut_least, weighed, weight_out}
+use Rattle.wm_path_laws.proofs.Others.{added_behind, below, weighed, weight_out}
 use Rattle.wm_path_laws.proofs.Routes.{IsPicked, leads_on, picks}
 use Rattle.wm_path_laws.proofs.Tables.{uncut}
 
@@ -197,7 +198,7 @@ module _ (s : Setting) (count : ℕ) (laid : IsLaidOut s.graph) (counted : count
                   (ap (λ (w : ℕ). n * w) c.weighs) rest.weighs (weight_here (n * known) (adds ∙ sym whole.0));
             }
           where
-            l' : (way : List ℕ) × (end : ℕ) × (end ≡ last_of s head) × Leads s head.node way end
+            l' : (way : List ℕ) × (end : ℕ) × (end ≡ last_of s head) × Leads s head.node way end × (cut (way_weight (added s count) s way) ≡ known)
             l' = leads_on s laid (added s count) head.node (λ node. node ≡ last_of s head) (get_or (firsts s count) head.node 0) (inside (field s count) (turning_for s.graph.edges head n)) (ending_at head.node (last_of s head)) (through s count laid counted k head n m.2.0) known e
 
             adds : get_or (added s count) (target_in (slice_get s.graph.edges number)) 0 ≡ cut (n * known)

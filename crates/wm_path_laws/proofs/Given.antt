@@ -97,20 +97,20 @@ bound_tells s frame bound e =
 
 -- ---- a frame
 
-abbrev ends_in : Setting → Head → List Bool
+abbrev pub ends_in : Setting → Head → List Bool
 ends_in s frame = ends_of s.graph s.facts.stops frame
 
-abbrev part_of : Setting → (count : ℕ) → Head → List Way
+abbrev pub part_of : Setting → (count : ℕ) → Head → List Way
 part_of s count frame = drop (get_or (firsts s count) frame.node 0) (ways_of s)
 
-abbrev table_in : Setting → (count : ℕ) → Head → List (Option ℕ)
+abbrev pub table_in : Setting → (count : ℕ) → Head → List (Option ℕ)
 table_in s count frame = swept frame.node (added s count) (part_of s count frame) (ending_in (drop frame.node (ends_in s frame)))
 
 abbrev edges_in : Setting → (count : ℕ) → Head → List ℕ
 edges_in s count frame =
     picked frame.node (added s count) (table_in s count frame) (ending_in (drop frame.node (ends_in s frame))) (get_or (firsts s count) frame.node 0) frame.node (part_of s count frame)
 
-weight_is : (s : Setting) (frame : Head) → weight_from s.graph s.weights s.facts.turns s.facts.live s.facts.stops frame ≡ or_nought (best_at frame.node (table_in s (length s.facts.stops) frame) frame.node)
+pub weight_is : (s : Setting) (frame : Head) → weight_from s.graph s.weights s.facts.turns s.facts.live s.facts.stops frame ≡ or_nought (best_at frame.node (table_in s (length s.facts.stops) frame) frame.node)
 unfolding weight_from greatest_weight onwards firsts added marks marks_of added_of
 weight_is s frame = ap (λ (n : ℕ). or_nought (best_at frame.node (table_in s n frame) frame.node)) (length-set s.facts.stops (last_of s frame) true)
 
@@ -145,7 +145,7 @@ module _ (s : Setting) (frame : Head) (laid : IsLaidOut s.graph) (counted : leng
       (λ (ne : node ≡ last_of s frame → ⊥). inr (sym (get_or-set_other s.facts.stops (last_of s frame) node true false ne) ∙ e))
       (cases_eq node (last_of s frame))
 
-  onward : Route s (added s (length s.facts.stops)) frame.node (IsEndOf s frame) (get_or (firsts s (length s.facts.stops)) frame.node 0) (part_of s (length s.facts.stops) frame) (ending_in (drop frame.node (ends_in s frame)))
+  pub onward : Route s (added s (length s.facts.stops)) frame.node (IsEndOf s frame) (get_or (firsts s (length s.facts.stops)) frame.node 0) (part_of s (length s.facts.stops) frame) (ending_in (drop frame.node (ends_in s frame)))
   onward =
       let parts : Parts (length s.facts.stops) (ways_of s) frame.node (get_or (firsts s (length s.facts.stops)) frame.node 0) = parts_at s (length s.facts.stops) laid counted frame.node (head_inside s (length s.facts.stops) laid counted 0 frame at) in
       let within : frame.node < length s.facts.stops = head_inside s (length s.facts.stops) laid counted 0 frame at in

@@ -1,5 +1,6 @@
 pub mod Added
 pub mod Chosen
+pub mod Cuts
 pub mod Given
 pub mod Having
 pub mod Leading
@@ -12,4 +13,5 @@ pub mod Parts
 pub mod Routes
 pub mod Steps
 pub mod Tables
+pub mod Telling
 pub mod Walks

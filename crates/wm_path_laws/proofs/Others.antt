@@ -1,8 +1,6 @@
 -- No choice weighs more than its list of edges with what is added at its heads.
-use Rattle.std.proofs.Common.{◌≡◌, ℕ, zero, suc, ◌+◌, ◌*◌, ◌<◌, ◌≤◌, inl, inr, ⊎_elim, List, [], ◌∷◌, length, get_or, map, min, Option, Some, None, refl, ap, sym, ◌∙◌, subst, arith}
+use Rattle.std.proofs.Common.{◌≡◌, ℕ, zero, suc, ◌+◌, ◌*◌, ◌≤◌, inl, inr, List, [], ◌∷◌, length, get_or, map, Option, Some, None, refl, ap, sym, ◌∙◌, subst, arith}
 use Rattle.std.specs.Prelude.{slice_get}
-use Rattle.std.proofs.lemmas.Bool.{cases_lt}
-use Rattle.std.proofs.lemmas.Bool.Decides.{nat_tests}
 use Rattle.wm_flow.specs.declared.graph.Edge.{Edge}
 use Rattle.wm_flow.specs.declared.graph.Head.{Head}
 use Rattle.wm_ways.specs.Numbers.{cut, or_nought}
@@ -14,71 +12,17 @@ use Rattle.wm_path.specs.declared.choice.Choice.{Choice}
 use Rattle.wm_path.specs.declared.choice.Choice.TheViews.{out-Choice}
 use Rattle.wm_path.specs.declared.choice.Choice.TheFolds.{fold_out-Choice}
 use Rattle.wm_path_laws.specs.Choices.{IsLaidOut, Setting, Leads, Meets, AreTurns, IsWithin, last_of, edge_weight, edges_weight, turns_weight, weight_step, weight_of}
+use Rattle.wm_path_laws.proofs.Cuts.{cut_again, cut_sum, cut_up, turns_least}
 use Rattle.wm_path_laws.proofs.Leading.{target_in, way_weight}
 use Rattle.wm_path_laws.proofs.Loops.{added, added_some, field, firsts, through}
 use Rattle.wm_path_laws.proofs.Marks.{turning_for}
 use Rattle.wm_path_laws.proofs.Routes.{at_least}
 
--- ---- numbers
-
-cut_is : (n : ℕ) → cut n ≡ min n 1000000000000001
-cut_is n = grind (arith, nat_tests)
-
-least_sum : (x x' y y' limit : ℕ) → min x limit ≤ min x' limit → min y limit ≤ min y' limit → min (x + y) limit ≤ min (x' + y') limit
-least_sum x x' y y' limit p q = omega arith
-
--- a relation between numbers that are cut
-pub cut_least : (x y : ℕ) → cut x ≤ cut y → min x 1000000000000001 ≤ min y 1000000000000001
-cut_least x y h = subst (λ (n : ℕ). n ≤ min y 1000000000000001) (cut_is x) (subst (λ (n : ℕ). cut x ≤ n) (cut_is y) h)
-
-pub least_cut : (x y : ℕ) → min x 1000000000000001 ≤ min y 1000000000000001 → cut x ≤ cut y
-least_cut x y h = subst (λ (n : ℕ). n ≤ cut y) (sym (cut_is x)) (subst (λ (n : ℕ). min x 1000000000000001 ≤ n) (sym (cut_is y)) h)
-
-pub cut_sum : (x x' y y' : ℕ) → cut x ≤ cut x' → cut y ≤ cut y' → cut (x + y) ≤ cut (x' + y')
-cut_sum x x' y y' p q = least_cut (x + y) (x' + y') (least_sum x x' y y' 1000000000000001 (cut_least x x' p) (cut_least y y' q))
-
-pub cut_up : (x y : ℕ) → x ≤ y → cut x ≤ cut y
-cut_up x y h = least_cut x y (least_up x y 1000000000000001 h)
-  where
-    least_up : (x y limit : ℕ) → x ≤ y → min x limit ≤ min y limit
-    least_up x y limit h = omega arith
-
-least_turns : (n b limit : ℕ) → min (n * min b limit) limit ≡ min (n * b) limit
-least_turns zero b limit = omega arith
-least_turns (suc n) b limit =
-    ⊎_elim
-    (λ (below : b < limit). let same : min b limit ≡ b = omega (arith, below) in ap (λ (m : ℕ). min (suc n * m) limit) same)
-    (λ (above : limit ≤ b).
-    let same : min b limit ≡ limit = omega (arith, above) in
-    let left : min (suc n * limit) limit ≡ limit = at_most (suc n * limit) limit (omega arith) in
-    let right : min (suc n * b) limit ≡ limit = at_most (suc n * b) limit (omega (arith, above)) in
-    ap (λ (m : ℕ). min (suc n * m) limit) same ∙ left ∙ sym right)
-    (cases_lt b limit)
-  where
-    at_most : (m limit : ℕ) → limit ≤ m → min m limit ≡ limit
-    at_most m limit h = omega (arith, h)
-
-cut_turns : (n b : ℕ) → cut (n * cut b) ≡ cut (n * b)
-cut_turns n b = ap (λ (m : ℕ). cut (n * m)) (cut_is b) ∙ cut_is (n * min b 1000000000000001) ∙ least_turns n b 1000000000000001 ∙ sym (cut_is (n * b))
-
-cut_again : (n : ℕ) → cut (cut n) ≡ cut n
-cut_again n = ap cut (cut_is n) ∙ cut_is (min n 1000000000000001) ∙ least_again n 1000000000000001 ∙ sym (cut_is n)
-  where
-    least_again : (n limit : ℕ) → min (min n limit) limit ≡ min n limit
-    least_again n limit = omega arith
-
-more_turns : (n a b : ℕ) → a ≤ b → n * a ≤ n * b
-more_turns n a b h = grind arith
-
--- so many turns of what is at most a number when it is cut
-turns_least : (n b known : ℕ) → cut b ≤ known → cut (n * b) ≤ cut (n * known)
-turns_least n b known h = subst (λ (m : ℕ). m ≤ cut (n * known)) (cut_turns n b) (cut_up (n * cut b) (n * known) (more_turns n (cut b) known h))
+-- ---- weights
 
 known_least : (n : ℕ) (o : Option ℕ) → IsAtLeast n o → n ≤ or_nought o
 known_least n None h = absurd h
 known_least n (Some m) h = h
-
--- ---- weights
 
 abbrev pub weighed : Setting → Body Choice → Body ℕ
 weighed s body = record { head = body.head; turns = body.turns; choice = weight_of s body.choice }

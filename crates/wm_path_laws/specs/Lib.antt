@@ -1,3 +1,4 @@
+pub mod Bound
 pub mod Choices
 pub mod Paths
 pub mod Worst

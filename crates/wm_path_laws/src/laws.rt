@@ -1,4 +1,5 @@
-// The first of the paths of greatest weight.
+// The first of the paths of greatest weight, the worst of all choices, and the bound of a frame.
+ghost use Rattle.wm_path_laws.specs.Bound.{TellsTheBound};
 ghost use Rattle.wm_path_laws.specs.Paths.{PicksTheFirst};
 ghost use Rattle.wm_path_laws.specs.Worst.{EachListIsChosen, GivesTheWorst, OneIsWorst};
 
@@ -14,4 +15,10 @@ pub fn choice_laws()
     ensures gives_the_worst { GivesTheWorst }
     ensures one_is_worst { OneIsWorst }
     ensures each_list_is_chosen { EachListIsChosen }
+{}
+
+/// It does nothing: its contract tells that the bound of a frame is the greatest weight of all choices, that some choice weighs more
+/// than 10^15 where it is too large, and that else it names the first loop without a bound on its turns.
+pub fn bound_laws()
+    ensures tells_the_bound { TellsTheBound }
 {}
