@@ -10,3 +10,4 @@ mod Told
 mod Shown
 mod Shapes
 mod Examples
+mod Completing

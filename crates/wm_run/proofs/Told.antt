@@ -1,22 +1,20 @@
 -- Files that tell what they hold, and do not fail, leave one answer of theirs.
-use Rattle.std.proofs.Common.{◌≡◌, ◌⊎◌, inl, inr, ℕ, List, Option, Some, None, Result, Ok, refl, subst}
+use Rattle.std.proofs.Common.{◌≡◌, ◌⊎◌, inl, inr, ℕ, List, Option, Some, None, Result, refl, subst}
 use Rattle.std.specs.Prelude.{IfSome}
 use Rattle.wm_files.specs.Outside.{Held, Rose}
 use Rattle.wm_load.specs.Checking.{check_asked}
 use Rattle.wm_load.specs.Loading.{load_asked}
-use Rattle.wm_load.specs.Replay.{Replay as Given}
 use Rattle.wm_load.specs.Replaying.{replay_asked}
 use Rattle.wm_read.specs.Asking.{Asking, Leads, told}
 use Rattle.wm_read.proofs.Asked.{leads_told}
 use Rattle.wm_report.specs.declared.fault.RunFault.{RunFault}
 use Rattle.wm_words.specs.Words.{Form, Prove, Check, Replay, Demo, Worst, Headroom, Observe, BadWords, form_of}
-use Rattle.wm_run.specs.Outcome.{Decided, Told, IsOwn}
+use Rattle.wm_run.specs.Outcome.{Decided, IsOwn}
 use Rattle.wm_run.specs.World.{World}
 use Rattle.wm_run.specs.Proved.{CheckedAs, HeadroomAs, ProvedAs, WorstAs}
 use Rattle.wm_run.specs.Sampled.{ObservedAs, ReplayedAs}
-use Rattle.wm_run.specs.Replay.{whole_replay}
-use Rattle.wm_run.specs.Leads.{By, From, FromForm, Reading, ToldForm, ToldBy}
-use Rattle.wm_run.specs.Ends.{Call, ByMemory, Completes, Decides, EndsAsTold, EndsByTold, Put, ReplayCompletes}
+use Rattle.wm_run.specs.Leads.{By, From, FromForm, Reading, ToldForm}
+use Rattle.wm_run.specs.Ends.{Call, ByMemory, Decides, EndsAsTold, EndsByTold, Put}
 
 module _ (world : World) (pairs : Held) (same : world.before ≡ Some pairs) where
   from_told : {A : Type 0} (As : A → Decided → Type 0) (asked : Asking (Result A RunFault)) (d : Decided) → From world As asked d → Rose world.old world.new ⊎ By world As (told pairs asked) d
@@ -55,28 +53,3 @@ module _ (call : Call) (status : ℕ) where
 
   pub memory_as_told : ByMemory call status → EndsAsTold call status
   memory_as_told memory = memory_held memory call.files.before
-
-  -- ---- a replay of valid files
-
-  replay_put : (given : Given) (answer : Result Given RunFault) (d : Decided) → answer ≡ Ok given → By call.files (Reading call.files ReplayedAs) answer d → Put call d status → Put call (Told (whole_replay given)) status
-  replay_put given answer d is by put =
-      let here : By call.files (Reading call.files ReplayedAs) (Ok given) d = subst (λ (r : Result Given RunFault). By call.files (Reading call.files ReplayedAs) r d) is by in
-      subst (λ (e : Decided). Put call e status) here.1 put
-
-  told_replay : (pairs : Held) (spec samples : List ℕ) (given : Given) (d : Decided) → form_of call.words ≡ Replay spec samples → told pairs (replay_asked spec samples) ≡ Ok given
-      → ToldBy call.words call.files pairs d → Put call d status → Put call (Told (whole_replay given)) status
-  told_replay pairs spec samples given d form is decides put =
-      replay_put given (told pairs (replay_asked spec samples)) d is (subst (λ (f : Form). ToldForm call.files pairs f d) form decides) put
-
-  completes_held : (pairs : Held) (spec samples : List ℕ) (given : Given) → form_of call.words ≡ Replay spec samples → EndsByTold call pairs status → told pairs (replay_asked spec samples) ≡ Ok given → Completes call status given
-  completes_held pairs spec samples given form (inl rose) is = record { ends = inl rose }
-  completes_held pairs spec samples given form (inr (inl by)) is = record { ends = inr (told_replay pairs spec samples given by.decision form is by.decides by.put) }
-  completes_held pairs spec samples given form (inr (inr memory)) is = record { ends = inr (inr (inr memory.memory)) }
-
-  completes_where : (held : Option Held) (spec samples : List ℕ) (given : Given) → form_of call.words ≡ Replay spec samples → IfSome held (λ pairs. EndsByTold call pairs status)
-      → IfSome held (λ pairs. told pairs (replay_asked spec samples) ≡ Ok given → Completes call status given)
-  completes_where None spec samples given form ends = tt
-  completes_where (Some pairs) spec samples given form ends = completes_held pairs spec samples given form ends
-
-  pub completes : EndsAsTold call status → ReplayCompletes call status
-  completes ends spec samples given form = completes_where call.files.before spec samples given form ends

@@ -4,15 +4,12 @@ use Rattle.std.specs.FinMap.{get}
 use Rattle.wm_files.specs.Outside.{Held, Rose, grown, with_bytes, CutShort}
 use Rattle.wm_load.specs.Loaded.{Loaded}
 use Rattle.wm_load.specs.Loading.{load_asked}
-use Rattle.wm_load.specs.Replay.{Replay as Given}
-use Rattle.wm_load.specs.Replaying.{replay_asked}
-use Rattle.wm_read.specs.Asking.{Leads, told}
+use Rattle.wm_read.specs.Asking.{Leads}
 use Rattle.wm_report.specs.declared.fault.RunFault.TheVariants as refusals
 use Rattle.wm_words.specs.Words.{Form, Prove, Check, Replay, Demo, Worst, Headroom, Observe, BadWords, form_of}
 use Rattle.wm_run.specs.Outcome.{Decided, Fault, IsAnswer, IsOwn, status_of, text_of}
 use Rattle.wm_run.specs.World.{World}
 use Rattle.wm_run.specs.Proved.{Proof, IsCertificate}
-use Rattle.wm_run.specs.Replay.{whole_replay}
 use Rattle.wm_run.specs.Leads.{LeadsTo, ToldBy}
 
 -- what a call is given, and what is seen of the world outside before and after it
@@ -162,17 +159,3 @@ HeldBy call (Worst spec) = call.files.after ≡ call.files.before
 HeldBy call (Headroom spec) = call.files.after ≡ call.files.before
 HeldBy call (Observe spec samples) = call.files.after ≡ call.files.before
 HeldBy call BadWords = call.files.after ≡ call.files.before
-
--- ---- a replay of valid files
-
--- the text of the run of what the files give is put whole, unless memory runs out or the world outside fails
-pub record Completes (call : Call) (status : ℕ) (given : Given) : Type 0 where
-  pub ends :
-      Rose call.files.old call.files.new
-      ⊎ PutAnswer 0 (whole_replay given) call.written_before call.written_after call.sink_faults_before call.sink_faults_after status
-
--- files that tell what they hold, and of which the words of a replay make a program and frames, lead to its whole text
-abbrev pub ReplayCompletes : Call → ℕ → Type 0
-ReplayCompletes call status =
-    (spec samples : List ℕ) (given : Given) → form_of call.words ≡ Replay spec samples
-    → IfSome call.files.before (λ pairs. told pairs (replay_asked spec samples) ≡ Ok given → Completes call status given)

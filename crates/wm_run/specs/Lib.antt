@@ -7,3 +7,4 @@ pub mod Sampled
 pub mod Demo
 pub mod Leads
 pub mod Ends
+pub mod Completeness

@@ -4,7 +4,8 @@ ghost use Rattle.std.specs.Prelude.{◌≡◌, ◌≤◌, ◌⊎◌, map, string
 ghost use Rattle.wm_words.specs.Words.{form_of};
 ghost use Rattle.wm_run.specs.Outcome.{IsOwn, decided, status_of, text_of};
 ghost use Rattle.wm_run.specs.World.{world_of};
-ghost use Rattle.wm_run.specs.Ends.{call_of, Answered, Ends, EndsAsTold, HeldBy, OnlyMemory, PutAnswer, ReadFails, ReplayCompletes, SinkFails, UnknownWords, WriteFails};
+ghost use Rattle.wm_run.specs.Ends.{call_of, Answered, Ends, EndsAsTold, HeldBy, OnlyMemory, PutAnswer, ReadFails, SinkFails, UnknownWords, WriteFails};
+ghost use Rattle.wm_run.specs.Completeness.{CheckCompletes, CheckRefuses, DemoCompletes, HeadroomCompletes, ObserveCompletes, ProveCompletes, ReplayCompletes, TellsRefusal, WorstCompletes};
 
 use crate::command::outcome_of;
 use crate::outcome::Outcome;
@@ -75,8 +76,21 @@ pub fn run<F: Files, S: Sink>(alloc: Global, words: &[String], files: &mut F, ou
     ensures memory { result ≡ 7 → OnlyMemory (S.written out.old) (S.written out.new) result }
     // 8 comes where the words are none of the seven forms.
     ensures unknown_words { result ≡ 8 → UnknownWords (call_of (map string_bytes words.now) (world_of (F.held files.old) (F.held files.new) (F.faults files.old) (F.faults files.new)) (S.written out.old) (S.written out.new) (S.faults out.old) (S.faults out.new)) }
-    // Over files that tell what they hold and do not fail, a replay without a fault prints its whole text, with 0.
+    // Over files that tell what they hold and do not fail, the refusal that comes first puts its line, with its status.
+    ensures refuses { TellsRefusal (call_of (map string_bytes words.now) (world_of (F.held files.old) (F.held files.new) (F.faults files.old) (F.faults files.new)) (S.written out.old) (S.written out.new) (S.faults out.old) (S.faults out.new)) result }
+    // Where nothing refuses, prove puts the report of what it proved, with 0 or 1, and its certificate stands in its file.
+    ensures prove_completes { ProveCompletes (call_of (map string_bytes words.now) (world_of (F.held files.old) (F.held files.new) (F.faults files.old) (F.faults files.new)) (S.written out.old) (S.written out.new) (S.faults out.old) (S.faults out.new)) result }
+    // So do worst and headroom, with their texts.
+    ensures worst_completes { WorstCompletes (call_of (map string_bytes words.now) (world_of (F.held files.old) (F.held files.new) (F.faults files.old) (F.faults files.new)) (S.written out.old) (S.written out.new) (S.faults out.old) (S.faults out.new)) result }
+    ensures headroom_completes { HeadroomCompletes (call_of (map string_bytes words.now) (world_of (F.held files.old) (F.held files.new) (F.faults files.old) (F.faults files.new)) (S.written out.old) (S.written out.new) (S.faults out.old) (S.faults out.new)) result }
+    // A demo puts the summary of its example, or the line of the first fault in it.
+    ensures demo_completes { DemoCompletes (call_of (map string_bytes words.now) (world_of (F.held files.old) (F.held files.new) (F.faults files.old) (F.faults files.new)) (S.written out.old) (S.written out.new) (S.faults out.old) (S.faults out.new)) result }
+    // The text of a certificate comes to the report, or to one of the two refusals of a text; other bytes to their first bad line.
+    ensures check_completes { CheckCompletes (call_of (map string_bytes words.now) (world_of (F.held files.old) (F.held files.new) (F.faults files.old) (F.faults files.new)) (S.written out.old) (S.written out.new) (S.faults out.old) (S.faults out.new)) result }
+    ensures check_refuses { CheckRefuses (call_of (map string_bytes words.now) (world_of (F.held files.old) (F.held files.new) (F.faults files.old) (F.faults files.new)) (S.written out.old) (S.written out.new) (S.faults out.old) (S.faults out.new)) result }
+    // A replay without a fault puts its whole text, with 0, and observe what was seen.
     ensures replay_completes { ReplayCompletes (call_of (map string_bytes words.now) (world_of (F.held files.old) (F.held files.new) (F.faults files.old) (F.faults files.new)) (S.written out.old) (S.written out.new) (S.faults out.old) (S.faults out.new)) result }
+    ensures observe_completes { ObserveCompletes (call_of (map string_bytes words.now) (world_of (F.held files.old) (F.held files.new) (F.faults files.old) (F.faults files.new)) (S.written out.old) (S.written out.new) (S.faults out.old) (S.faults out.new)) result }
     // All names keep what they held; but prove may write the certificate that it found under its name.
     ensures held { HeldBy (call_of (map string_bytes words.now) (world_of (F.held files.old) (F.held files.new) (F.faults files.old) (F.faults files.new)) (S.written out.old) (S.written out.new) (S.faults out.old) (S.faults out.new)) (form_of (map string_bytes words.now)) }
     ensures files_count { F.faults files.old ≤ F.faults files.new }

@@ -83,19 +83,3 @@ pub(crate) fn call_on(
     ];
     call(alloc, &[command, "s.toml"], &held)
 }
-
-/// Runs a command over a specification `s.toml`, a source `a.c` and samples `x.bin`.
-pub(crate) fn call_with(
-    alloc: Global,
-    command: &str,
-    specification: &str,
-    source: &str,
-    samples: &[u8],
-) -> Result<Answer, Fail> {
-    let held = [
-        ("s.toml", specification.as_bytes()),
-        ("a.c", source.as_bytes()),
-        ("x.bin", samples),
-    ];
-    call(alloc, &[command, "s.toml", "x.bin"], &held)
-}

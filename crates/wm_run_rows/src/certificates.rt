@@ -1,6 +1,6 @@
 // Certificates: what `prove` writes, what `check` accepts and why it refuses, and that no other command writes one.
 use crate::calls::{Answer, call, call_failing, call_on, expect};
-use crate::programs::{ALONE, COUNTER, COUNTER_FILES, ENERGY, HALVES};
+use crate::programs::{ALONE, COUNTER, COUNTER_FILES, ENERGY, HALVES, UNSET};
 use std::alloc::Global;
 use std::test::Fail;
 
@@ -187,5 +187,27 @@ fn a_certificate_that_cannot_be_written(rt: HostRuntime) -> Result<(), Fail> {
             .as_bytes()
             .starts_with(&answer.certificate)
     );
+    Ok(())
+}
+
+/// A certificate that is held stays as it is where samples are run.
+#[test]
+fn certificates_beside_samples(rt: HostRuntime) -> Result<(), Fail> {
+    let alloc = rt.alloc();
+    let named = "source = \"a.c\"\ncertificate = \"c.txt\"\n[range]\nx = [0, 0]\n";
+    let held = [
+        ("s.toml", named.as_bytes()),
+        ("a.c", UNSET.as_bytes()),
+        ("x.bin", b"\x00\x00".as_slice()),
+        ("c.txt", b"kept".as_slice()),
+    ];
+    for command in ["observe", "replay"] {
+        let answer = call(alloc, &[command, "s.toml", "x.bin"], &held)?;
+        assert_eq!(rt; answer.status, 0, "{command}");
+        assert!(rt;
+            answer.certificate.as_slice() == b"kept".as_slice(),
+            "{command}"
+        );
+    }
     Ok(())
 }

@@ -1,5 +1,5 @@
-//! Calls of each command over memory, worked by hand: reports, certificates, texts of choices, replays, refusals, and reads, writes
-//! and puts that fail in turn.
+//! Calls of each command over memory: reads, writes and puts that fail in turn, refusals in their order, certificates as they are written,
+//! cut and changed, and boxes beside groups. Whole texts stand in the tables of tests/.
 #![tactic(auto)]
 
 #[cfg(test)]
@@ -9,11 +9,7 @@ mod calls;
 #[cfg(test)]
 mod certificates;
 #[cfg(test)]
-mod choices;
-#[cfg(test)]
 mod programs;
-#[cfg(test)]
-mod proofs;
 #[cfg(test)]
 mod refusals;
 #[cfg(test)]
