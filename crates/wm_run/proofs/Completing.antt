@@ -1,5 +1,5 @@
 -- Where nothing refuses, a call comes to its whole text.
-use Rattle.std.proofs.Common.{◌≡◌, ◌⊎◌, inl, inr, ◌∙◌, sym, ap, subst, ℕ, Bool, true, List, Option, Some, None, Result, Ok, Err, refl}
+use Rattle.std.proofs.Common.{◌≡◌, ◌⊎◌, inl, inr, ◌∙◌, sym, ap, subst, ℕ, true, List, Option, Some, None, Result, Ok, Err, refl}
 use Rattle.std.specs.Prelude.{IfSome}
 use Rattle.wm_cert_states.specs.Answers.{heads_in}
 use Rattle.wm_files.specs.Outside.{Held, Rose}
@@ -15,7 +15,7 @@ use Rattle.wm_read.specs.Asking.{Asking, told}
 use Rattle.wm_report.specs.declared.fault.RunFault.{RunFault}
 use Rattle.wm_report.specs.declared.fault.RunFault.TheVariants.{SourcesTooLong, Source, TooMany, NoFrame, NoInit, BadInput, FileTooLong, NotToml, MissingKey, UnknownKey, BadValue, BadKey, BadNumber, MissingWeight, Rest, OutOfRange, CertificateTooLong, BadText, WrongHeads, NotInductive, ReadFailed, WriteFailed, Memory, Words}
 use Rattle.wm_words.specs.Words.{Form, Prove, Check, Replay, Demo, Worst, Headroom, Observe, BadWords, form_of}
-use Rattle.wm_run.specs.Completeness.{AnswersText, IsGap, CheckCompletes, CheckRefuses, Comes, Completes, DemoCompletes, EndsIn, HeadroomCompletes, IsReport, Leading, ObserveCompletes, ProveCompletes, ReplayCompletes, Stands, TellsRefusal, WorstCompletes, first_refusal, refusal_in}
+use Rattle.wm_run.specs.Completeness.{AnswersText, IsGap, CheckCompletes, CheckRefuses, Comes, Completes, DemoCompletes, EndsIn, HeadroomCompletes, IsReport, ObserveCompletes, ProveCompletes, ReplayCompletes, Stands, TellsRefusal, WorstCompletes, first_refusal, refusal_in}
 use Rattle.wm_run.specs.Demo.{ByExample, example_loaded}
 use Rattle.wm_run.specs.Ends.{Call, Ends, EndsAsTold, EndsByTold, Put}
 use Rattle.wm_run.specs.Leads.{By, FromForm, Reading, ToldForm}

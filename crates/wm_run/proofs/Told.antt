@@ -1,5 +1,5 @@
 -- Files that tell what they hold, and do not fail, leave one answer of theirs.
-use Rattle.std.proofs.Common.{◌≡◌, ◌⊎◌, inl, inr, ℕ, List, Option, Some, None, Result, refl, subst}
+use Rattle.std.proofs.Common.{◌≡◌, ◌⊎◌, inl, inr, ℕ, Option, Some, None, Result, refl, subst}
 use Rattle.std.specs.Prelude.{IfSome}
 use Rattle.wm_files.specs.Outside.{Held, Rose}
 use Rattle.wm_load.specs.Checking.{check_asked}
