@@ -140,13 +140,16 @@ module _ (pairs : Bool) (s t : Shape) (way : IsWay s t) (Has : Point → Type 0)
     sum = λ on u r c hu hr ne ou or all.
         subst (λ (z : ℤ). (signed u.negative z +ℤ term_value known r) ≤ℤ c) (sym (known-at u.variable ou.to ou.from))
         (subst (λ (z : ℤ). (signed u.negative (y.values ou.to) +ℤ signed r.negative z) ≤ℤ c) (sym (known-at r.variable or.to or.from))
-        (met (SumBelow (record { variable = ou.to; negative = u.negative }) (record { variable = or.to; negative = r.negative }) c)
-        (on, grouped_to s t u.variable ou.to hu ou.from, grouped_to s t r.variable or.to hr or.from,
-          λ e. ne (origin_apart t s u.variable r.variable ou.to ou.from (or.from ∙ ap Some (sym e))))
+        (met (SumBelow (record { variable = ou.to; negative = u.negative }) (record { variable = or.to; negative = r.negative }) c) (
+          on,
+          grouped_to s t u.variable ou.to hu ou.from,
+          grouped_to s t r.variable or.to hr or.from,
+          λ e. ne (origin_apart t s u.variable r.variable ou.to ou.from (or.from ∙ ap Some (sym e))),
+        )
         (λ m w.
-            subst (λ (z : ℤ). (signed u.negative z +ℤ signed r.negative (m.values or.to)) ≤ℤ c) (sym (moved_at u.variable ou.to m w.is (whole u.variable hu) ou.from))
-            (subst (λ (z : ℤ). (signed u.negative (w.is.was.values u.variable) +ℤ signed r.negative z) ≤ℤ c) (sym (moved_at r.variable or.to m w.is (whole r.variable hr) or.from))
-            (all w.is.was w.is.carried.point)))));
+        subst (λ (z : ℤ). (signed u.negative z +ℤ signed r.negative (m.values or.to)) ≤ℤ c) (sym (moved_at u.variable ou.to m w.is (whole u.variable hu) ou.from))
+        (subst (λ (z : ℤ). (signed u.negative (w.is.was.values u.variable) +ℤ signed r.negative z) ≤ℤ c) (sym (moved_at r.variable or.to m w.is (whole r.variable hr) or.from))
+        (all w.is.was w.is.carried.point)))));
   }
     where
       in_front : (n k l v : ℕ) → l ≡ n + k → v < n → v < l

@@ -97,11 +97,13 @@ here_capped n (Some xs) k l c hk hl = record {
   points = λ x. (
     λ p. (
       record { meets = λ i j hi hj. le_of _ _ _ (p.meets i j hi hj) (subst (λ (z : ℤ). z ≤ℤ entry xs i j) (sym (entry-table (2 * n) (lowered xs k l c) i j hi hj)) (lowered-le xs k l c i j)) },
-      le_of _ _ _ (p.meets k l hk hl) (subst (λ (z : ℤ). z ≤ℤ c) (sym (entry-table (2 * n) (lowered xs k l c) k l hk hl)) (lowered_here xs k l c))),
+      le_of _ _ _ (p.meets k l hk hl) (subst (λ (z : ℤ). z ≤ℤ c) (sym (entry-table (2 * n) (lowered xs k l c) k l hk hl)) (lowered_here xs k l c)),
+    ),
     λ w. record {
       meets = λ i j hi hj. subst (λ (z : ℤ). (side_value x j -ℤ side_value x i) ≤ℤ z) (sym (entry-table (2 * n) (lowered xs k l c) i j hi hj))
           (le_lowered xs k l c i j _ (w.0.meets i j hi hj) (λ e f. subst_side x i j k l c e f w.1));
-    });
+    },
+  );
 }
 
 mirror_side : (x : ℕ → ℤ) (k l : ℕ) (c : ℤ) → (side_value x (opposite k) -ℤ side_value x (opposite l)) ≤ℤ c → (side_value x l -ℤ side_value x k) ≤ℤ c
@@ -158,7 +160,8 @@ term_capped_tie o t c hv =
       variables = w.variables;
       points = λ x. (
         λ p. let q = (w.points x).0 p in (q.0, subst (λ (z : ℤ). z ≤ℤ c) (s.gives x) (once _ _ c (side_value-opposite x s.side) q.1)),
-        λ p. (w.points x).1 (p.0, twice _ _ c (side_value-opposite x s.side) (subst (λ (z : ℤ). z ≤ℤ c) (sym (s.gives x)) p.1)));
+        λ p. (w.points x).1 (p.0, twice _ _ c (side_value-opposite x s.side) (subst (λ (z : ℤ). z ≤ℤ c) (sym (s.gives x)) p.1)),
+      );
     }
 
 sum_capped_tie : (o : OctagonView) (t u : Term) (c : ℤ) → t.variable < o.variables → u.variable < o.variables → IsCappedTie o (λ x. (term_value x t +ℤ term_value x u) ≤ℤ c)
@@ -173,7 +176,8 @@ sum_capped_tie o t u c ht hu =
       variables = w.variables;
       points = λ x. (
         λ p. let q = (w.points x).0 p in (q.0, sum_from _ _ _ _ _ c (s.gives x) (r.gives x) (side_value-opposite x s.side) q.1),
-        λ p. (w.points x).1 (p.0, sum_to _ _ _ _ _ c (s.gives x) (r.gives x) (side_value-opposite x s.side) p.1));
+        λ p. (w.points x).1 (p.0, sum_to _ _ _ _ _ c (s.gives x) (r.gives x) (side_value-opposite x s.side) p.1),
+      );
     }
 
 same_spans : (t : TiedView) (s : Spanned) → s.full ≡ t.spans.full → s.array_full ≡ t.spans.array_full → shape_of (record t { spans = s }) ≡ shape_of t
@@ -243,7 +247,8 @@ module _ (t : TiedView) (p : Point) (i : In t p) where
         tied = record { counted = w.variables ∙ i.tied.counted; few = i.tied.few; narrow = i.tied.narrow; inside = λ x h. i.tied.inside x ((w.points x).0 h).0 };
         ties = (w.points q.values).1 (k.0.ties, (f q).0 k.1);
         spans = k.0.spans;
-      });
+      },
+    );
   }
 
   span_cut : (b : Bound) (Fact : Point → Type 0) → IsCapped t.spans Fact → ((q : Point) → Meets b q ↔ Fact (shifted (length t.group) q)) → IsCut t b
@@ -252,7 +257,8 @@ module _ (t : TiedView) (p : Point) (i : In t p) where
     same = same_spans t w.to w.full w.array_full;
     points = λ q. (
       λ k. let h = (w.points (shifted (length t.group) q)).0 k.spans in (record { tied = i.tied; ties = k.ties; spans = h.0 }, (f q).1 h.1),
-      λ k. record { tied = i.tied; ties = k.0.ties; spans = (w.points (shifted (length t.group) q)).1 (k.0.spans, (f q).0 k.1) });
+      λ k. record { tied = i.tied; ties = k.0.ties; spans = (w.points (shifted (length t.group) q)).1 (k.0.spans, (f q).0 k.1) },
+    );
   }
 
   in_ties : (v : ℕ) → v < length t.group → v < t.ties.variables
@@ -267,7 +273,7 @@ module _ (t : TiedView) (p : Point) (i : In t p) where
     | inr g ↦ span_cut (TermBelow u c) (λ q. signed u.negative (q.values (u.variable - length t.group)) ≤ℤ c)
         (term_capped t.spans i.spans.kept (u.variable - length t.group) u.negative c (past u.variable h g))
         (λ q. let e = past_number (length t.group) u.variable g in
-          (λ k. subst (λ (v : ℕ). signed u.negative (q.values v) ≤ℤ c) (sym e) k, λ k. subst (λ (v : ℕ). signed u.negative (q.values v) ≤ℤ c) e k))
+        (λ k. subst (λ (v : ℕ). signed u.negative (q.values v) ≤ℤ c) (sym e) k, λ k. subst (λ (v : ℕ). signed u.negative (q.values v) ≤ℤ c) e k))
   ]
 
   pub groups_cut : (b : Bound) → IsBound true (shape_of t) b → IsCut t b

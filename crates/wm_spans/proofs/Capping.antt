@@ -45,7 +45,8 @@ up_part r c h =
       part = record { low = r.low; high = int_min r.high c; ordered = omega (arith, ints, clamps) };
       each = λ z. (
         λ w. let a = w.above in let b = w.below in (record { above = a; below = omega (arith, ints, clamps) }, omega (arith, ints, clamps)),
-        λ w. let a = w.0.above in let b = w.0.below in let e = w.1 in record { above = a; below = omega (arith, ints, clamps) });
+        λ w. let a = w.0.above in let b = w.0.below in let e = w.1 in record { above = a; below = omega (arith, ints, clamps) },
+      );
     }
 
 down_part : (r : Interval) (c : ℤ) → neg_ℤ c ≤ℤ r.high → IsPart r (λ z. neg_ℤ z ≤ℤ c)
@@ -55,7 +56,8 @@ down_part r c h =
       part = record { low = int_max r.low (neg_ℤ c); high = r.high; ordered = omega (arith, ints, clamps) };
       each = λ z. (
         λ w. let a = w.above in let b = w.below in (record { above = omega (arith, ints, clamps); below = b }, omega (arith, ints, clamps)),
-        λ w. let a = w.0.above in let b = w.0.below in let e = w.1 in record { above = omega (arith, ints, clamps); below = b });
+        λ w. let a = w.0.above in let b = w.0.below in let e = w.1 in record { above = omega (arith, ints, clamps); below = b },
+      );
     }
 
 no_up : (r : Interval) (c z : ℤ) → c <ℤ r.low → Holds r z → z ≤ℤ c → ⊥
@@ -79,7 +81,8 @@ term_capped s k v b c hv = elim (side_part (range_at s.ranges v) b c) [
         array_full = refl;
         points = λ p. (
           λ i. let w = x.made p i in (w.point, ((m.each (p.values v)).0 w.bounded).1),
-          λ w. x.kept p (in_full s p w.0) (record { point = w.0; bounded = (m.each (p.values v)).1 (w.0.numbers v hv, w.1) }));
+          λ w. x.kept p (in_full s p w.0) (record { point = w.0; bounded = (m.each (p.values v)).1 (w.0.numbers v hv, w.1) }),
+        );
       })
   | inr none ↦ bare_capped s (λ p. signed b (p.values v) ≤ℤ c) (λ p i e. none (p.values v) (i.numbers v hv) e)
 ]
@@ -111,7 +114,8 @@ range_both i j = elim (le_or_lt (int_max i.low j.low) (int_min i.high j.high)) [
     at m e f None = (λ t. (tt, tt), λ t. tt)
     at m e f (Some z) = (
       λ w. let a = w.above in let b = w.below in (record { above = omega (arith, ints, clamps); below = omega (arith, ints, clamps) }, record { above = omega (arith, ints, clamps); below = omega (arith, ints, clamps) }),
-      λ w. let a = w.0.above in let b = w.0.below in let c = w.1.above in let d = w.1.below in record { above = omega (arith, ints, clamps); below = omega (arith, ints, clamps) })
+      λ w. let a = w.0.above in let b = w.0.below in let c = w.1.above in let d = w.1.below in record { above = omega (arith, ints, clamps); below = omega (arith, ints, clamps) },
+    )
 
     apart : (z : ℤ) → int_min i.high j.high <ℤ int_max i.low j.low → Holds i z → Holds j z → ⊥
     apart z h w x = let a = w.above in let b = w.below in let c = x.above in let d = x.below in omega (arith, ints, clamps)
@@ -141,11 +145,13 @@ cells_capped s k a r ha =
               | inr ne ↦ cell_there s.cells a b m.both (p.cells b) ne (i.cells b hb)
             ];
           },
-          ((m.each (p.cells a)).0 (cell_here s.cells a m.both (p.cells a) here (i.cells a ha))).1),
+          ((m.each (p.cells a)).0 (cell_here s.cells a m.both (p.cells a) here (i.cells a ha))).1,
+        ),
         λ w. record {
           some = w.0.some;
           kept = kept_put_cells s.full s.array_full s.ranges s.cells a m.both k ha (m.lies (range_at s.array_full a) (k.cells_lie a ha));
           numbers = w.0.numbers;
           cells = each_cell (λ b t. AllowsCell t (p.cells b)) s.cells a (length s.array_full) m.both here ((m.each (p.cells a)).1 (w.0.cells a ha, w.1)) (λ b hb ne. w.0.cells b hb);
-        });
+        },
+      );
     }

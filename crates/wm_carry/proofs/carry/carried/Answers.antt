@@ -35,6 +35,6 @@ returns-clause-least g c =
     let Has = g.D.Domain.holds c.args.at.now in
     least_as g.D.Domain.holds g.D.Domain.shape_of c.in_ok-state.state (Projected Has c.in_ok-picks.picks.items c.in_ok-arrays.arrays.items) (Moved way.source.now way.target.now Has [] [])
     (λ p i m. of_projected way.source.now way.target.now Has c.in_ok-picks.picks.items c.in_ok-arrays.arrays.items p
-        c.in_ok-picks.ensures.long c.in_ok-arrays.ensures.long c.in_ok-picks.ensures.each c.in_ok-arrays.ensures.each m)
+    c.in_ok-picks.ensures.long c.in_ok-arrays.ensures.long c.in_ok-picks.ensures.each c.in_ok-arrays.ensures.each m)
     (subst (λ (xs : List (Option ℕ)). IsLeast g.D.Domain.holds g.D.Domain.shape_of c.in_ok-state.state (Projected Has xs c.in_ok-arrays.arrays.items)) c.deref.ensures.value
     (subst (λ (xs : List (Option ℕ)). IsLeast g.D.Domain.holds g.D.Domain.shape_of c.in_ok-state.state (Projected Has c.deref.result.now xs)) c.deref-2.ensures.value c.in_ok-state.ensures.least))
