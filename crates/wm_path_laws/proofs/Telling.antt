@@ -113,9 +113,6 @@ endless_is start live turns head m h l i t =
     ∙ ap (without_turns head.loop_id) t ∙ i
 
 module _ (s : Setting) (frame : Head) where
-  abbrev endless : Option ℕ
-  endless = endless_from frame.node s.facts.turns s.facts.live 0 s.graph.heads None
-
   at_place : (k : ℕ) (head : Head) (loop_id : ℕ) → IsEndless s frame k head loop_id → EndlessAt frame.node s.facts.turns s.facts.live 0 s.graph.heads k loop_id
   at_place k head loop_id is =
       let same : 0 + k ≡ k = omega arith in
@@ -151,9 +148,6 @@ within_limit w v h small =
     let l : min w 1000000000000001 ≤ v = subst (λ (n : ℕ). n ≤ v) (cut_is w) h in omega (arith, l, small)
 
 module _ (s : Setting) (frame : Head) (laid : IsLaidOut s.graph) (counted : length s.facts.stops ≡ length s.graph.node_shape) (at : slice_get s.graph.heads 0 ≡ Some frame) where
-  abbrev known : Option ℕ
-  known = best_at frame.node (table_in s (length s.facts.stops) frame) frame.node
-
   -- each list of edges to an end weighs at most what is known, when it is cut
   list_least : (way : List ℕ) (end : ℕ) → IsEndOf s frame end → Leads s frame.node way end → IsAtLeast (cut (way_weight (added s (length s.facts.stops)) s way)) (best_at frame.node (table_in s (length s.facts.stops) frame) frame.node)
   list_least way end is l =

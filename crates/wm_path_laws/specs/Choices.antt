@@ -19,7 +19,7 @@ use Rattle.wm_path.specs.declared.choice.Choice.TheViews.{out-Choice}
 abbrev pub IsNoBack : Graph → (number : ℕ) → Type 0
 IsNoBack graph number = (k : ℕ) (head : Head) → slice_get graph.heads k ≡ Some head → number ≢ head.back
 
--- What the graph of a program is.
+-- What the laws ask of a graph.
 pub record IsLaidOut (graph : Graph) : Type 0 where
   -- the edges stand in the order of their sources
   pub ordered : (i j : ℕ) (a b : Edge) → i < j → slice_get graph.edges i ≡ Some a → slice_get graph.edges j ≡ Some b → a.source ≤ b.source
