@@ -1,6 +1,8 @@
 -- The beginning of a walk and its end.
-use Rattle.std.proofs.Common.{◌≡◌, ◌⊎◌, inl, inr, ℕ, zero, suc, ◌+◌, ◌<◌, List, [], ◌∷◌, ◌++◌, length, replicate, Option, Some, None, Result, Ok, Err, Bool, true, false, refl, ap, subst, sym, ◌∙◌, arith}
+use Rattle.std.proofs.Common.{◌≡◌, ◌⊎◌, inl, inr, ℕ, zero, suc, ◌+◌, ◌<◌, List, [], ◌∷◌, ◌++◌, length, replicate, take, drop, Option, Some, None, Result, Ok, Err, Bool, true, false, refl, ap, subst, sym, ◌∙◌, arith}
 use Rattle.std.proofs.Math.Nat.{eq-or-lt_of_le}
+use Rattle.std.proofs.Math.Seq.{take-length}
+use Rattle.std.proofs.Math.ListN.{drop_of_length-le}
 use Rattle.std.proofs.lemmas.List.{append-nil, length-replicate}
 use Rattle.std.proofs.lemmas.List.Elements.{All-nil}
 use Rattle.std.proofs.lemmas.Option.{slice_get_within}
@@ -20,6 +22,7 @@ use Rattle.wm_accept.specs.declared.entries.Entry.{Entry}
 use Rattle.wm_accept.specs.declared.entries.Entry.TheVariants.{Unseen, Held}
 use Rattle.wm_accept.specs.Entries.{IsClosed}
 use Rattle.wm_accept.specs.Standing.{Standing}
+use Rattle.wm_accept.specs.Watched.{Watched, IsWatched}
 
 none_held : (n k : ℕ) → slice_get (replicate n Unseen) k ≡ Some Held → ⊥
 none_held zero k e = no_some e
@@ -59,25 +62,45 @@ module _ (Allowed : Graph → (number : ℕ) → (Point → Type 0) → (Point �
         };
   }
 
-  module _ (pairs : List (ℕ × S)) (entries : List Entry) (node : ℕ) (st : Standing Allowed Started Has shape_of program graph states pairs entries node) (n : node ≡ length graph.node_shape) (l : length entries ≡ length graph.heads) where
-    by_gap : (gap : Option Gap) → IfNone gap ((k : ℕ) → k < length entries → slice_get entries k ≡ Some Held) → IfNone gap ((k : ℕ) → k < length entries → IsClosed Allowed Has shape_of graph states pairs k) → IfNone gap (IsAccepted Allowed Started Has shape_of program graph states)
-    by_gap None e c = accepted_last pairs entries node st n l e c
+  watched_last : (Saw : List S → Type 0) (pairs : List (ℕ × S)) (entries : List Entry) (node : ℕ) → Watched Allowed Started Has shape_of Saw program graph states pairs entries node → node ≡ length graph.node_shape → length entries ≡ length graph.heads → ((k : ℕ) → k < length entries → slice_get entries k ≡ Some Held) → ((k : ℕ) → k < length entries → IsClosed Allowed Has shape_of graph states pairs k) → IsWatched Allowed Started Has shape_of Saw program graph states
+  unfolding accepted_last
+  watched_last Saw pairs entries node w n l e c = record { accepted = accepted_last pairs entries node w.standing n l e c; saw = w.saw }
+
+  module _ (Saw : List S → Type 0) (pairs : List (ℕ × S)) (entries : List Entry) (node : ℕ) (w : Watched Allowed Started Has shape_of Saw program graph states pairs entries node) (n : node ≡ length graph.node_shape) (l : length entries ≡ length graph.heads) where
+    by_gap : (gap : Option Gap) → IfNone gap ((k : ℕ) → k < length entries → slice_get entries k ≡ Some Held) → IfNone gap ((k : ℕ) → k < length entries → IsClosed Allowed Has shape_of graph states pairs k) → IfNone gap (IsWatched Allowed Started Has shape_of Saw program graph states)
+    by_gap None e c = watched_last Saw pairs entries node w n l e c
     by_gap (Some gap) e c = tt
 
-    pub accepted_by : {E : Type 0} (r : Result (Option Gap) E) → IfOk r (λ gap. IfNone gap ((k : ℕ) → k < length entries → slice_get entries k ≡ Some Held)) → IfOk r (λ gap. IfNone gap ((k : ℕ) → k < length entries → IsClosed Allowed Has shape_of graph states pairs k)) → IfOk r (λ gap. IfNone gap (IsAccepted Allowed Started Has shape_of program graph states))
-    accepted_by (Err x) e c = tt
-    accepted_by (Ok gap) e c = by_gap gap e c
+    watched_by : {E : Type 0} (r : Result (Option Gap) E) → IfOk r (λ gap. IfNone gap ((k : ℕ) → k < length entries → slice_get entries k ≡ Some Held)) → IfOk r (λ gap. IfNone gap ((k : ℕ) → k < length entries → IsClosed Allowed Has shape_of graph states pairs k)) → IfOk r (λ gap. IfNone gap (IsWatched Allowed Started Has shape_of Saw program graph states))
+    watched_by (Err x) e c = tt
+    watched_by (Ok gap) e c = by_gap gap e c
 
-    pub accepted_seen : {E : Type 0} (seen : List Entry) → seen ≡ entries → (r : Result (Option Gap) E) → IfOk r (λ gap. IfNone gap ((k : ℕ) → k < length seen → slice_get seen k ≡ Some Held)) → IfOk r (λ gap. IfNone gap ((k : ℕ) → k < length seen → IsClosed Allowed Has shape_of graph states pairs k)) → IfOk r (λ gap. IfNone gap (IsAccepted Allowed Started Has shape_of program graph states))
-    accepted_seen seen e r a b =
-        accepted_by r
+    pub watched_seen : {E : Type 0} (seen : List Entry) → seen ≡ entries → (r : Result (Option Gap) E) → IfOk r (λ gap. IfNone gap ((k : ℕ) → k < length seen → slice_get seen k ≡ Some Held)) → IfOk r (λ gap. IfNone gap ((k : ℕ) → k < length seen → IsClosed Allowed Has shape_of graph states pairs k)) → IfOk r (λ gap. IfNone gap (IsWatched Allowed Started Has shape_of Saw program graph states))
+    watched_seen seen e r a b =
+        watched_by r
         (subst (λ (es : List Entry). IfOk r (λ gap. IfNone gap ((k : ℕ) → k < length es → slice_get es k ≡ Some Held))) e a)
         (subst (λ (es : List Entry). IfOk r (λ gap. IfNone gap ((k : ℕ) → k < length es → IsClosed Allowed Has shape_of graph states pairs k))) e b)
 
-  pub standing_init : (pairs : List (ℕ × S)) (entries : List Entry) (n : ℕ) → pairs ≡ [] → entries ≡ replicate n Unseen → Standing Allowed Started Has shape_of program graph states pairs entries 0
-  standing_init pairs entries n p e =
-      subst (λ (es : List Entry). Standing Allowed Started Has shape_of program graph states pairs es 0) (sym e)
-      (subst (λ (ps : List (ℕ × S)). Standing Allowed Started Has shape_of program graph states ps (replicate n Unseen) 0) (sym p) (standing_first n))
+  -- states that are accepted by labels that were shown are accepted
+  pub accepted_watched : (Saw : List S → Type 0) {E : Type 0} (r : Result (Option Gap) E) → IfOk r (λ gap. IfNone gap (IsWatched Allowed Started Has shape_of Saw program graph states)) → IfOk r (λ gap. IfNone gap (IsAccepted Allowed Started Has shape_of program graph states))
+  accepted_watched Saw (Err x) h = tt
+  accepted_watched Saw (Ok None) h = h.accepted
+  accepted_watched Saw (Ok (Some gap)) h = tt
+
+  watched_first : (Saw : List S → Type 0) (n : ℕ) → Saw [] → Watched Allowed Started Has shape_of Saw program graph states [] (replicate n Unseen) 0
+  unfolding standing_first
+  watched_first Saw n saw = record { standing = standing_first n; saw = saw }
+
+  pub watched_init : (Saw : List S → Type 0) (pairs : List (ℕ × S)) (entries : List Entry) (n : ℕ) → pairs ≡ [] → entries ≡ replicate n Unseen → Saw [] → Watched Allowed Started Has shape_of Saw program graph states pairs entries 0
+  watched_init Saw pairs entries n p e saw =
+      subst (λ (es : List Entry). Watched Allowed Started Has shape_of Saw program graph states pairs es 0) (sym e)
+      (subst (λ (ps : List (ℕ × S)). Watched Allowed Started Has shape_of Saw program graph states ps (replicate n Unseen) 0) (sym p) (watched_first Saw n saw))
+
+-- a table of which all was lent
+pub whole_again : {X : Type 0} (n : ℕ) (xs ys zs : List X) → length xs ≡ length zs → zs ≡ ys → length zs ≡ n → take n (xs ++ drop (length xs) ys) ≡ xs
+whole_again n xs ys zs a b c =
+    let d : drop (length xs) ys ≡ [] = drop_of_length-le ys (omega (arith, a, ap length b)) in
+    ap (λ (ws : List _). take n (xs ++ ws)) d ∙ ap (take n) (append-nil xs) ∙ ap (λ m. take m xs) (sym (a ∙ c)) ∙ take-length xs
 
 pub entry_count : (entries : List Entry) (n m : ℕ) → entries ≡ replicate n Unseen → n ≡ m → length entries ≡ m
 entry_count entries n m e s = ap length e ∙ length-replicate n Unseen ∙ s

@@ -21,6 +21,7 @@ use Rattle.wm_accept.specs.declared.entries.Entry.{Entry}
 use Rattle.wm_accept.specs.declared.entries.Entry.TheVariants.{Held}
 use Rattle.wm_accept.specs.Entries.{AreTried}
 use Rattle.wm_accept.specs.Standing.{Standing}
+use Rattle.wm_accept.specs.Watched.{Watched}
 
 -- ---- lists that grow
 
@@ -103,6 +104,10 @@ module _ (Allowed : Graph → (number : ℕ) → (Point → Type 0) → (Point �
         held = λ k head state h i a more. one_head k head state h i (t.each k head state h i a) more;
       }
 
-      pub standing_next : (kept left : List (ℕ × S)) → kept ≡ pairs ++ (node, s) ∷ [] → left ≡ without_all ended kept → Standing Allowed Started Has shape_of program graph states left after (node + 1)
-      standing_next kept left k l =
-          subst (λ (ps : List (ℕ × S)). Standing Allowed Started Has shape_of program graph states ps after (node + 1)) (sym (l ∙ ap (without_all ended) k)) standing_more
+      watched_more : (Saw : List S → Type 0) → Saw (st.labels ++ s ∷ []) → Watched Allowed Started Has shape_of Saw program graph states (without_all ended (pairs ++ (node, s) ∷ [])) after (node + 1)
+      unfolding standing_more
+      watched_more Saw saw = record { standing = standing_more; saw = saw }
+
+      pub watched_next : (Saw : List S → Type 0) (kept left : List (ℕ × S)) → kept ≡ pairs ++ (node, s) ∷ [] → left ≡ without_all ended kept → Saw (st.labels ++ s ∷ []) → Watched Allowed Started Has shape_of Saw program graph states left after (node + 1)
+      watched_next Saw kept left k l saw =
+          subst (λ (ps : List (ℕ × S)). Watched Allowed Started Has shape_of Saw program graph states ps after (node + 1)) (sym (l ∙ ap (without_all ended) k)) (watched_more Saw saw)

@@ -1,2 +1,3 @@
 pub mod Entries
 pub mod Standing
+pub mod Watched

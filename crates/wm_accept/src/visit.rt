@@ -6,7 +6,7 @@ ghost use Rattle.wm_images.specs.Nodes.{node_shape};
 ghost use Rattle.wm_walk.specs.Graphs.{AreDrawn, AreStates};
 ghost use Rattle.wm_walk.specs.Rows.{AreRows};
 ghost use Rattle.wm_accept.specs.Entries.{AreTried};
-ghost use Rattle.wm_accept.specs.Standing.{Standing};
+ghost use Rattle.wm_accept.specs.Watched.{Watched};
 
 use crate::entries::{Entry, head_at, state_at, tried};
 use crate::watcher::Watcher;
@@ -80,26 +80,7 @@ fn try_entry<D: Domain, M: Images<D>>(
     }
 }
 
-/// Shows the label of a node, which is kept.
-fn show<D: Domain, W: Watcher<D>>(
-    alloc: Global,
-    program: &Program,
-    graph: &Graph,
-    kept: &Kept<D>,
-    node: u32,
-    watcher: &mut W,
-) -> Result<(), NoMemory>
-    requires kept { AreShaped D.shape_of graph.now kept.now.1 }
-    requires next { W.next watcher.old node }
-    ensures next { OnOk result (W.next watcher.new (node + 1)) }
-{
-    match kept.get(node) {
-        None => Err(NoMemory),
-        Some(label) => watcher.see(alloc, program, graph, node, label),
-    }
-}
-
-/// Makes the label of a node, keeps and shows it, tries the entry edge of the head at the node, and gives up the labels that no
+/// Makes the label of a node, shows and keeps it, tries the entry edge of the head at the node, and gives up the labels that no
 /// node behind this one needs.
 pub(crate) fn visit<D: Domain, M: Images<D>, W: Watcher<D>>(
     alloc: Global,
@@ -119,10 +100,10 @@ pub(crate) fn visit<D: Domain, M: Images<D>, W: Watcher<D>>(
     requires drawn { AreDrawn M.drawn graph.now }
     requires shapes { All IsShape graph.now.shapes }
     requires states { AreStates D.shape_of graph.now states.now }
-    requires standing { Standing M.allowed M.started D.holds D.shape_of program.now graph.now states.now kept.old.1 entries.old node }
+    requires standing { Watched M.allowed M.started D.holds D.shape_of (W.saw program.now graph.now watcher.old) program.now graph.now states.now kept.old.1 entries.old node }
     requires next { W.next watcher.old node }
     ensures same { length live.new ≡ length live.old }
-    ensures standing { OnOk result (Standing M.allowed M.started D.holds D.shape_of program.now graph.now states.now kept.new.1 entries.new (node + 1)) }
+    ensures standing { OnOk result (Watched M.allowed M.started D.holds D.shape_of (W.saw program.now graph.now watcher.new) program.now graph.now states.now kept.new.1 entries.new (node + 1)) }
     ensures next { OnOk result (W.next watcher.new (node + 1)) }
 {
     let head = head_of(rows, node);
@@ -138,9 +119,9 @@ pub(crate) fn visit<D: Domain, M: Images<D>, W: Watcher<D>>(
         live,
         node,
     )?;
+    watcher.see(alloc, program, graph, node, &label)?;
     keep(kept, node, label)?;
     try_entry(alloc, images, graph, states, kept, head, entries, live)?;
-    show(alloc, program, graph, kept, node, watcher)?;
     give_up_all(kept, ended_at(rows, node));
     Ok(())
 }

@@ -1,8 +1,9 @@
 // The walk over all nodes.
-ghost use Rattle.std.specs.Prelude.{◌≡◌, length, replicate, All, IfOk, IfNone};
+ghost use Rattle.std.specs.Prelude.{◌≡◌, [], length, replicate, All, IfOk, IfNone};
 ghost use Rattle.wm_domain.specs.States.{IsShape};
 ghost use Rattle.wm_labels.specs.Accepted.{IsAccepted};
 ghost use Rattle.wm_walk.specs.Graphs.{AreDrawn, AreStates};
+ghost use Rattle.wm_accept.specs.Watched.{IsWatched};
 
 use crate::entries::Entry;
 use crate::gaps::first_gap;
@@ -47,8 +48,10 @@ pub fn walk<D: Domain, M: Images<D>, W: Watcher<D>>(
     requires shapes { All IsShape graph.now.shapes }
     requires states { AreStates D.shape_of graph.now states.now }
     requires next { W.next watcher.old 0 }
+    requires saw { W.saw program.now graph.now watcher.old [] }
     ensures same { length live.new ≡ length live.old }
     ensures accepted { IfOk result (λ gap. IfNone gap (IsAccepted M.allowed M.started D.holds D.shape_of program.now graph.now states.now)) }
+    ensures watched { IfOk result (λ gap. IfNone gap (IsWatched M.allowed M.started D.holds D.shape_of (W.saw program.now graph.now watcher.new) program.now graph.now states.now)) }
 {
     let rows = rows_of(alloc, graph)?;
     let Ok(count) = u32::try_from(graph.node_shape.items().len()) else {

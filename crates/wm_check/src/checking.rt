@@ -3,6 +3,7 @@ ghost use Rattle.std.specs.Prelude.{◌≡◌, All, IfOk};
 ghost use Rattle.wm_domain.specs.States.{IsShape};
 ghost use Rattle.wm_labels.specs.Accepted.{IsAccepted};
 ghost use Rattle.wm_walk.specs.Graphs.{AreDrawn, AreStates};
+ghost use Rattle.wm_check.specs.Found.{AreCounted, AreFindings};
 
 use crate::turning::{shape_at, turns_by_head};
 use crate::watching::{Outcome, Told, watched};
@@ -77,26 +78,22 @@ fn findings_of<D: Domain>(
     tables: &Tables,
     weights: &Weights,
     states: &[D],
+    turns: &[Option<u64>],
     told: Told,
 ) -> Result<Findings, NoMemory>
     requires states { AreStates D.shape_of graph.now states.now }
+    ensures sites { IfOk result (λ findings. findings.sites ≡ told.verdicts) }
+    ensures counted { IfOk result (λ findings. AreCounted program.now graph.now weights.now turns.now told.live.items told.stops.items findings) }
 {
-    let turns = turns_by_head(alloc, graph, states)?;
     let live = told.live.as_slice();
-    let loops = turns_by_loop(
-        alloc,
-        graph,
-        program.loops.items().len(),
-        turns.items(),
-        live,
-    )?;
+    let loops = turns_by_loop(alloc, graph, program.loops.items().len(), turns, live)?;
     let lines = lines_of(alloc, program, graph, tables, states)?;
     let bounds = bounds_of(
         alloc,
         program,
         graph,
         weights,
-        turns.items(),
+        turns,
         live,
         told.stops.as_slice(),
     )?;
@@ -122,13 +119,24 @@ pub fn check<D: Domain, M: Images<D>>(
     requires shapes { All IsShape graph.now.shapes }
     requires states { AreStates D.shape_of graph.now certificate.now.heads }
     ensures accepted { IfOk result (λ findings. IsAccepted M.allowed M.started D.holds D.shape_of program.now graph.now certificate.now.heads) }
+    ensures findings { IfOk result (λ findings. AreFindings M.allowed M.started D.holds D.shape_of program.now graph.now weights.now certificate.now.heads findings) }
 {
     let tables = tables_of(alloc, program)?;
     let states = certificate.heads.items();
     match watched(alloc, images, program, graph, tables.counts.arrays, states)? {
         Outcome::Gap(gap) => Err(CheckFault::NotInductive { gap }),
         Outcome::Accepted(told) => {
-            let findings = findings_of(alloc, program, graph, &tables, weights, states, told)?;
+            let turns = turns_by_head(alloc, graph, states)?;
+            let findings = findings_of(
+                alloc,
+                program,
+                graph,
+                &tables,
+                weights,
+                states,
+                turns.items(),
+                told,
+            )?;
             Ok(findings)
         }
     }

@@ -1,9 +1,10 @@
 // What the labels tell while they are shown: the verdicts, and where a run may stop.
-ghost use Rattle.std.specs.Prelude.{◌≡◌, ◌+◌, ℕ, length, All, IfOk, IfNone, OnOk};
+ghost use Rattle.std.specs.Prelude.{◌≡◌, ◌+◌, ◌++◌, ◌∷◌, [], ℕ, length, All, IfOk, IfNone, OnOk};
 ghost use Rattle.wm_domain.specs.States.{IsShape};
 ghost use Rattle.wm_labels.specs.Accepted.{IsAccepted};
 ghost use Rattle.wm_walk.specs.Graphs.{AreDrawn, AreStates};
-ghost use Rattle.wm_check.specs.Outcomes.{IfAccepted};
+ghost use Rattle.wm_verdict.specs.Sites.{no_entries, verdicts_of};
+ghost use Rattle.wm_check.specs.Outcomes.{IfAccepted, IfTold, IsTold};
 
 use std::alloc::Global;
 use wm_accept::{Watcher, walk};
@@ -30,8 +31,11 @@ pub(crate) struct Watch {
 
 impl<D: Domain> Watcher<D> for Watch {
     ghost use Rattle.std.specs.Prelude.{◌≡◌};
+    ghost use Rattle.wm_verdict.specs.Sites.{IsJudged};
 
     ghost next = { λ watch node. watch.judge.nodes ≡ node };
+
+    ghost saw = { λ program graph watch labels. IsJudged D.holds program graph labels watch.judge };
 
     fn see(
         &mut self,
@@ -83,6 +87,8 @@ fn first_watch(
     statics: u32,
 ) -> Result<Watch, NoMemory>
     ensures next { IfOk result (λ watch. watch.judge.nodes ≡ 0) }
+    ensures first { IfOk result (λ watch. watch.judge.edge ≡ 0) }
+    ensures entries { IfOk result (λ watch. watch.judge.entries.items ≡ no_entries (length program.now.sites)) }
 {
     let judge = Judge::new(alloc, program, graph)?;
     Ok(Watch {
@@ -93,9 +99,12 @@ fn first_watch(
     })
 }
 
-fn finished(alloc: Global, live: Vec<bool>, watch: Watch) -> Result<Told, NoMemory> {
+fn finished(alloc: Global, graph: &Graph, live: Vec<bool>, watch: Watch) -> Result<Told, NoMemory>
+    ensures all { IfOk result (λ told. watch.judge.edge ≡ length graph.now.edges) }
+    ensures verdicts { IfOk result (λ told. told.verdicts ≡ verdicts_of watch.judge.entries.items) }
+{
     let Watch { judge, stops, .. } = watch;
-    let verdicts = judge.finish(alloc)?;
+    let verdicts = judge.finish(alloc, graph)?;
     Ok(Told {
         live,
         stops,
@@ -116,6 +125,7 @@ pub(crate) fn watched<D: Domain, M: Images<D>>(
     requires shapes { All IsShape graph.now.shapes }
     requires states { AreStates D.shape_of graph.now states.now }
     ensures accepted { IfOk result (λ outcome. IfAccepted outcome (IsAccepted M.allowed M.started D.holds D.shape_of program.now graph.now states.now)) }
+    ensures told { IfOk result (λ outcome. IfTold outcome (IsTold M.allowed M.started D.holds D.shape_of program.now graph.now states.now)) }
 {
     let mut live = marks(alloc, graph.edges.items().len())?;
     let mut watch = first_watch(alloc, program, graph, statics)?;
@@ -131,7 +141,7 @@ pub(crate) fn watched<D: Domain, M: Images<D>>(
     match gap {
         Some(gap) => Ok(Outcome::Gap(gap)),
         None => {
-            let told = finished(alloc, live, watch)?;
+            let told = finished(alloc, graph, live, watch)?;
             Ok(Outcome::Accepted(told))
         }
     }

@@ -30,6 +30,8 @@ struct Adding {
 impl<D: Domain> Watcher<D> for Adding {
     ghost next = { λ _ _. Unit {0} };
 
+    ghost saw = { λ _ _ _ _. Unit {0} };
+
     fn see(
         &mut self,
         _alloc: Global,

@@ -1,6 +1,7 @@
 // What an edge shows of its site.
-ghost use Rattle.std.specs.Prelude.{◌≡◌, slice_index_or};
-ghost use Rattle.wm_verdict.specs.Places.{FitsNode};
+ghost use Rattle.std.specs.Prelude.{◌≡◌, slice_index_or, slice_get, Some, IfOk};
+ghost use Rattle.wm_verdict.specs.Places.{FitsNode, instance_at};
+ghost use Rattle.wm_verdict.specs.Sites.{IsSeenOf};
 
 use std::alloc::Global;
 use wm_domain::{Domain, Shape};
@@ -34,6 +35,7 @@ pub fn edge_seen<D: Domain>(
     label: &D,
 ) -> Result<Seen, NoMemory>
     requires shape { FitsNode graph.now node (D.shape_of label.now) }
+    ensures { IfOk result (λ seen. IsSeenOf D.holds (slice_get program.now.sites site) (Some label.now) edge.now.action seen) }
 {
     let number = shape_number(graph.node_shape.items(), node);
     match graph.shapes.items().get(number as usize) {
@@ -46,7 +48,9 @@ pub fn edge_seen<D: Domain>(
 }
 
 /// The instance of a node; 0 at a node of none, at which no site stands.
-pub fn instance_at(graph: &Graph, node: u32) -> u32 {
+pub fn instance_at(graph: &Graph, node: u32) -> u32
+    ensures { result ≡ instance_at graph.now node }
+{
     match graph.node_instance.items().get(node as usize) {
         None => 0,
         Some(instance) => match *instance {

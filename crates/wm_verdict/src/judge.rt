@@ -1,23 +1,16 @@
 // The judge, to whom the states of the nodes are shown one after another.
-ghost use Rattle.std.specs.Prelude.{◌≡◌, ◌+◌, OnOk, OnErr, IfOk};
+ghost use Rattle.std.specs.Prelude.{◌≡◌, ◌+◌, ◌++◌, ◌∷◌, [], List, length, OnOk, OnErr, IfOk};
 ghost use Rattle.wm_verdict.specs.Places.{FitsNode};
+ghost use Rattle.wm_verdict.specs.Sites.{noted, noted_all, no_entries, verdicts_of, IsJudged};
 
-use crate::edges::{edge_seen, instance_at};
+use crate::found::{Found, found_at};
 use std::alloc::Global;
 use wm_domain::Domain;
 use wm_findings::Verdict;
-use wm_flow::{Edge, Graph};
+use wm_flow::Graph;
 use wm_ops::{List, NoMemory};
 use wm_program::{Program, SiteInfo};
 use wm_tally::{Entry, Seen, entry_after, first_entry, verdict_of};
-
-/// What an edge of a site showed.
-#[derive(Clone, Copy)]
-struct Found {
-    site: u32,
-    instance: u32,
-    seen: Seen,
-}
 
 /// What has been seen of each site, by the states of the first nodes.
 #[derive(Drop)]
@@ -30,7 +23,10 @@ pub struct Judge {
     entries: Vec<Entry>,
 }
 
-fn no_entries(alloc: Global, sites: &[SiteInfo]) -> Result<Vec<Entry>, NoMemory> {
+/// Nothing has been seen of the sites.
+fn no_entries(alloc: Global, sites: &[SiteInfo]) -> Result<Vec<Entry>, NoMemory>
+    ensures { IfOk result (λ entries. entries.items ≡ no_entries (length sites.now)) }
+{
     let mut entries = Vec::new(alloc);
     for _site in sites {
         entries.push(first_entry())?;
@@ -38,66 +34,32 @@ fn no_entries(alloc: Global, sites: &[SiteInfo]) -> Result<Vec<Entry>, NoMemory>
     Ok(entries)
 }
 
-/// What the edges of a node show, those at the head of the list.
-fn found_at<D: Domain>(
-    alloc: Global,
-    program: &Program,
-    graph: &Graph,
-    edges: &[Edge],
-    node: u32,
-    label: &D,
-) -> Result<Vec<Found>, NoMemory>
-    requires shape { FitsNode graph.now node (D.shape_of label.now) }
+/// Notes what an edge of a site showed.
+fn note(entries: &mut Vec<Entry>, site: Option<u32>, instance: u32, seen: Seen)
+    ensures { entries.new.items ≡ noted entries.old.items site instance seen }
 {
-    let mut found = Vec::new(alloc);
-    for edge in edges {
-        if edge.source != node {
-            return Ok(found);
+    match site {
+        None => {}
+        Some(site) => {
+            let place = site as usize;
+            if place < entries.len() {
+                entries[place] = entry_after(entries[place], instance, seen);
+            }
         }
-        found.push(found_by(alloc, program, graph, node, edge, label)?)?;
     }
-    Ok(found)
 }
 
-/// What an edge shows; one without a site shows nothing of the first site.
-fn found_by<D: Domain>(
-    alloc: Global,
-    program: &Program,
-    graph: &Graph,
-    node: u32,
-    edge: &Edge,
-    label: &D,
-) -> Result<Found, NoMemory>
-    requires shape { FitsNode graph.now node (D.shape_of label.now) }
+fn note_all(entries: &mut Vec<Entry>, found: &[Found])
+    ensures { entries.new.items ≡ noted_all found.now entries.old.items }
 {
-    match edge.site {
-        None => Ok(Found {
-            site: 0,
-            instance: 0,
-            seen: Seen::Away,
-        }),
-        Some(site) => Ok(Found {
-            site,
-            instance: instance_at(graph, node),
-            seen: edge_seen(alloc, program, graph, node, edge, site, label)?,
-        }),
-    }
-}
-
-fn note(entries: &mut Vec<Entry>, found: Found) {
-    let site = found.site as usize;
-    if site < entries.len() {
-        entries[site] = entry_after(entries[site], found.instance, found.seen);
-    }
-}
-
-fn note_all(entries: &mut Vec<Entry>, found: &[Found]) {
     for one in found {
-        note(entries, *one);
+        note(entries, one.site, one.instance, one.seen);
     }
 }
 
-fn verdicts_of(alloc: Global, entries: &[Entry]) -> Result<List<Verdict>, NoMemory> {
+fn verdicts_of(alloc: Global, entries: &[Entry]) -> Result<List<Verdict>, NoMemory>
+    ensures { IfOk result (λ verdicts. verdicts ≡ verdicts_of entries.now) }
+{
     let mut verdicts = List::new(alloc);
     for entry in entries {
         verdicts.push(verdict_of(alloc, *entry)?)?;
@@ -109,6 +71,8 @@ impl Judge {
     /// Nothing has been seen: no site is reached.
     pub fn new(alloc: Global, program: &Program, _graph: &Graph) -> Result<Judge, NoMemory>
         ensures nodes { IfOk result (λ judge. judge.nodes ≡ 0) }
+        ensures first { IfOk result (λ judge. judge.edge ≡ 0) }
+        ensures entries { IfOk result (λ judge. judge.entries.items ≡ no_entries (length program.now.sites)) }
     {
         Ok(Judge {
             nodes: 0,
@@ -128,6 +92,7 @@ impl Judge {
         requires shape { FitsNode graph.now self.old.nodes (D.shape_of label.now) }
         ensures seen { OnOk result (self.new.nodes ≡ self.old.nodes + 1) }
         ensures refused { OnErr result (self.new ≡ self.old) }
+        ensures judged { OnOk result ((labels : List D) → IsJudged D.holds program.now graph.now labels self.old → IsJudged D.holds program.now graph.now (labels ++ label.now ∷ []) self.new) }
     {
         if self.nodes == u32::MAX {
             return Err(NoMemory);
@@ -155,8 +120,15 @@ impl Judge {
         }
     }
 
-    /// The verdicts by site, when all nodes were shown.
-    pub fn finish(self, alloc: Global) -> Result<List<Verdict>, NoMemory> {
+    /// The verdicts by site, when all nodes were shown. A graph whose edges do not stand in the order of their nodes, which no graph of
+    /// a program does, is refused.
+    pub fn finish(self, alloc: Global, graph: &Graph) -> Result<List<Verdict>, NoMemory>
+        ensures all { IfOk result (λ verdicts. self.edge ≡ length graph.now.edges) }
+        ensures verdicts { IfOk result (λ verdicts. verdicts ≡ verdicts_of self.entries.items) }
+    {
+        if self.edge != graph.edges.items().len() {
+            return Err(NoMemory);
+        }
         verdicts_of(alloc, self.entries.as_slice())
     }
 }

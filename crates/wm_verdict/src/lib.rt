@@ -2,9 +2,11 @@
 #![tactic(auto)]
 
 mod edges;
+mod found;
 mod judge;
 mod single;
 
+pub use found::Found;
 pub use judge::Judge;
 pub use single::verdict;
 pub use wm_findings::{Findings, Turns, Verdict};

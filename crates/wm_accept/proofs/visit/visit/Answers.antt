@@ -1,7 +1,7 @@
 use Rattle.std.proofs.Common.{sym, subst, ◌∙◌, ℕ, List}
 use Rattle.wm_images.specs.Labels.{AreShaped}
 use Rattle.wm_accept.specs.Entries.{AreTried}
-use Rattle.wm_accept.proofs.Going.{below, shaped_more, standing_next}
+use Rattle.wm_accept.proofs.Going.{below, shaped_more, watched_next}
 use Rattle.wm_accept.proofs.visit.visit.Goals as goal
 
 pub label_of-requires-clause-head : goal.label_of-requires-clause-head
@@ -11,23 +11,20 @@ pub label_of-requires-clause-into : goal.label_of-requires-clause-into
 label_of-requires-clause-into g c = c.into_at.ensures ∙ c.requires.rows.into c.args.node c.requires.inside
 
 pub label_of-requires-clause-kept : goal.label_of-requires-clause-kept
-label_of-requires-clause-kept g c = c.requires.standing.shaped
+label_of-requires-clause-kept g c = c.requires.standing.standing.shaped
 
 pub keep-requires : goal.keep-requires
-keep-requires g c = record { before = below c.requires.standing.labels c.args.node c.args.kept.now.1 c.requires.standing.count c.requires.standing.are_of }
+keep-requires g c = record { before = below c.requires.standing.standing.labels c.args.node c.args.kept.now.1 c.requires.standing.standing.count c.requires.standing.standing.are_of }
 
 pub try_entry-requires-clause-kept : goal.try_entry-requires-clause-kept
 try_entry-requires-clause-kept g c =
     subst (λ ps. AreShaped g.D.Domain.shape_of c.args.graph.now ps) (sym c.in_ok-keep.ensures.kept)
-    (shaped_more g.M.Images.allowed g.M.Images.started g.D.Domain.holds g.D.Domain.shape_of c.args.program.now c.args.graph.now c.args.states.now c.args.kept.now.1 c.args.node c.in_ok-label.label c.requires.standing.shaped c.in_ok-label.ensures.made.shape)
-
-pub show-requires-clause-kept : goal.show-requires-clause-kept
-show-requires-clause-kept g c =
-    subst (λ ps. AreShaped g.D.Domain.shape_of c.args.graph.now ps) (sym c.in_ok-keep.ensures.kept)
-    (shaped_more g.M.Images.allowed g.M.Images.started g.D.Domain.holds g.D.Domain.shape_of c.args.program.now c.args.graph.now c.args.states.now c.args.kept.now.1 c.args.node c.in_ok-label.label c.requires.standing.shaped c.in_ok-label.ensures.made.shape)
+    (shaped_more g.M.Images.allowed g.M.Images.started g.D.Domain.holds g.D.Domain.shape_of c.args.program.now c.args.graph.now c.args.states.now c.args.kept.now.1 c.args.node c.in_ok-label.label c.requires.standing.standing.shaped c.in_ok-label.ensures.made.shape)
 
 pub returns-clause-standing : goal.returns-clause-standing
 returns-clause-standing g c =
-    standing_next g.M.Images.allowed g.M.Images.started g.D.Domain.holds g.D.Domain.shape_of c.args.program.now c.args.graph.now c.args.states.now c.args.kept.now.1 c.args.node c.in_ok-label.label c.args.entries.now c.try_entry.new.entries c.ended_at.result.now c.requires.standing c.in_ok-label.ensures.made
+    watched_next g.M.Images.allowed g.M.Images.started g.D.Domain.holds g.D.Domain.shape_of c.args.program.now c.args.graph.now c.args.states.now c.args.kept.now.1 c.args.node c.in_ok-label.label c.args.entries.now c.try_entry.new.entries c.ended_at.result.now c.requires.standing.standing c.in_ok-label.ensures.made
     (subst (λ ps. AreTried g.M.Images.allowed g.D.Domain.holds g.D.Domain.shape_of c.args.graph.now c.args.states.now ps c.args.entries.now c.try_entry.new.entries) c.in_ok-keep.ensures.kept c.in_ok-try_entry.ensures.tried)
+    (g.W.Watcher.saw c.args.program.now c.args.graph.now c.see.new.self)
     c.keep.new.kept.1 c.give_up_all.new.kept.1 c.in_ok-keep.ensures.kept c.give_up_all.ensures.given_up
+    (c.in_ok-see.ensures.saw c.requires.standing.standing.labels c.requires.standing.saw)
