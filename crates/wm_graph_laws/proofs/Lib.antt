@@ -10,3 +10,9 @@ pub mod Same
 pub mod SameSizes
 pub mod Sized
 pub mod Whole
+pub mod Steps
+pub mod Holding
+pub mod Headed
+pub mod HeadedParts
+pub mod Found
+pub mod WholeHeads

@@ -34,17 +34,22 @@ ordered_append (it ∷ arcs) arc h p = (each_append (IsBefore it) arcs arc h.0 p
 
 -- a node
 module _ (layout : Layout) (context temporaries : ℕ) (instance : Option ℕ) where
-  node_arcs : (known : Option ℕ) (sketch : Sketch) → (node_drawn layout context temporaries instance known sketch).arcs ≡ sketch.arcs
+  pub node_arcs : (known : Option ℕ) (sketch : Sketch) → (node_drawn layout context temporaries instance known sketch).arcs ≡ sketch.arcs
   unfolding node_drawn
   node_arcs (Some number) sketch = refl
   node_arcs None sketch = refl
 
-  node_count : (known : Option ℕ) (sketch : Sketch) → length (node_drawn layout context temporaries instance known sketch).node_shape ≡ suc (length sketch.node_shape)
+  pub node_heads : (known : Option ℕ) (sketch : Sketch) → (node_drawn layout context temporaries instance known sketch).heads ≡ sketch.heads
+  unfolding node_drawn
+  node_heads (Some number) sketch = refl
+  node_heads None sketch = refl
+
+  pub node_count : (known : Option ℕ) (sketch : Sketch) → length (node_drawn layout context temporaries instance known sketch).node_shape ≡ suc (length sketch.node_shape)
   unfolding node_drawn
   node_count (Some number) sketch = omega (arith, length-append sketch.node_shape (number ∷ []))
   node_count None sketch = omega (arith, length-append sketch.node_shape (length sketch.layouts ∷ []))
 
-stands_with : (nodes least : ℕ) (sketch new : Sketch) → new.arcs ≡ sketch.arcs → length new.node_shape ≡ suc nodes → Stands nodes least sketch → Stands (suc nodes) 0 new
+pub stands_with : (nodes least : ℕ) (sketch new : Sketch) → new.arcs ≡ sketch.arcs → length new.node_shape ≡ suc nodes → Stands nodes least sketch → Stands (suc nodes) 0 new
 stands_with nodes least sketch new same counts h =
     record {
       count = counts;
@@ -57,7 +62,7 @@ stands_with nodes least sketch new same counts h =
     later arc it = record { source = omega (arith, it.source); target = λ e. omega (arith, it.source) }
 
 -- an edge
-stands_along : (nodes least : ℕ) (sketch new : Sketch) (arc : Arc) → new.arcs ≡ sketch.arcs ++ arc ∷ [] → new.node_shape ≡ sketch.node_shape → suc arc.source ≡ nodes → least ≤ arc.target → IsRunning arc → Stands nodes least sketch → Stands nodes (suc arc.target) new
+pub stands_along : (nodes least : ℕ) (sketch new : Sketch) (arc : Arc) → new.arcs ≡ sketch.arcs ++ arc ∷ [] → new.node_shape ≡ sketch.node_shape → suc arc.source ≡ nodes → least ≤ arc.target → IsRunning arc → Stands nodes least sketch → Stands nodes (suc arc.target) new
 stands_along nodes least sketch new arc drawn same at past runs h =
     record {
       count = ap (λ (xs : List ℕ). length xs) same ∙ h.count;
@@ -98,7 +103,7 @@ pub record Gone (K : Behind) (nodes target : ℕ) : Type 0 where
   pub heads : List Open
   pub k : K nodes (suc target) far heads
 
-led_gone : (m : Manner) (K : Behind) (nodes least : ℕ) (far : List ℕ) (heads : List Open) (arc : Arc) → suc arc.source ≡ nodes → Led m K nodes least far heads arc.target → Gone K nodes arc.target × (least ≤ arc.target) × Runs m arc
+pub led_gone : (m : Manner) (K : Behind) (nodes least : ℕ) (far : List ℕ) (heads : List Open) (arc : Arc) → suc arc.source ≡ nodes → Led m K nodes least far heads arc.target → Gone K nodes arc.target × (least ≤ arc.target) × Runs m arc
 unfolding Led
 led_gone Into K nodes least far heads arc at h =
     (record { far = far; heads = Entered nodes ∷ heads; k = h.3 }, omega (arith, h.1), omega (arith, h.0))

@@ -6,3 +6,5 @@ pub mod Ordered
 pub mod Calling
 pub mod Standing
 pub mod Laws
+pub mod Begun
+pub mod Loops
