@@ -4,7 +4,9 @@ ghost use Rattle.wm_program.specs.Code.{code_of};
 ghost use Rattle.wm_flow.specs.Views.{flow_of};
 ghost use Rattle.wm_flow.specs.Graphs.{graph_of};
 ghost use Rattle.wm_graph_laws.specs.Calling.{CallsStand};
-ghost use Rattle.wm_graph_laws.specs.Laws.{IsOrderly};
+ghost use Rattle.wm_flow.specs.Parts.{plan_of};
+ghost use Rattle.wm_graph_laws.specs.Begun.{HeadsStand};
+ghost use Rattle.wm_graph_laws.specs.Laws.{IsOrderly, IsHeaded};
 
 use std::alloc::Global;
 use wm_flow::{Graph, Sum};
@@ -21,6 +23,7 @@ use wm_seats::{sum_rows, tables_of};
 pub fn lower(alloc: Global, program: &Program, sums: &[Sum]) -> Result<Graph, NoMemory>
     ensures graph { IfOk result (λ graph. flow_of graph ≡ graph_of (code_of program.now) sums.now) }
     ensures orderly { IfOk result (λ graph. CallsStand (code_of program.now) → IsOrderly (flow_of graph)) }
+    ensures headed { IfOk result (λ graph. CallsStand (code_of program.now) → HeadsStand (plan_of (code_of program.now) sums.now) → IsHeaded (flow_of graph)) }
 {
     drawn_graph(alloc, program, sums)
 }
