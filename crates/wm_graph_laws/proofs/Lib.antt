@@ -16,3 +16,4 @@ pub mod Headed
 pub mod HeadedParts
 pub mod Found
 pub mod WholeHeads
+pub mod Formed

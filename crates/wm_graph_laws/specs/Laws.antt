@@ -1,6 +1,7 @@
 -- The structure of the graph of a program.
 use Rattle.std.specs.Prelude.{◌≡◌, ℕ, ◌<◌, ◌≤◌, ◌⊎◌, List, [], ◌∷◌, ◌++◌, length, Some, slice_index_or}
 use Rattle.wm_program.specs.Code.{Code}
+use Rattle.wm_program.specs.WellFormed.{WellFormedCode}
 use Rattle.wm_flow.specs.declared.graph.Sum.{Sum}
 use Rattle.wm_flow.specs.Plain.{Arc, Flow}
 use Rattle.wm_flow.specs.declared.graph.Head.{Head}
@@ -39,3 +40,7 @@ pub record IsHeaded (flow : Flow) : Type 0 where
 abbrev pub GraphsAreHeaded : Type 0
 GraphsAreHeaded =
     (code : Code) (sums : List Sum) → CallsStand code → HeadsStand (plan_of code sums) → IsHeaded (graph_of code sums)
+
+-- in a well-formed program each call enters an instance that is there, behind the caller's
+abbrev pub FormedCallsStand : Type 0
+FormedCallsStand = (code : Code) → WellFormedCode code → CallsStand code
