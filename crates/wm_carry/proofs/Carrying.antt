@@ -1,11 +1,11 @@
 -- The points of a state at the next node.
-use Rattle.std.proofs.Common.{◌≡◌, ◌⊎◌, inl, inr, ℕ, ◌+◌, ◌<◌, ◌≤◌, ℤ, List, [], length, Option, Some, None, refl, sym, ◌∙◌, ap, subst, arith}
+use Rattle.std.proofs.Common.{◌≡◌, inl, inr, ℕ, ◌+◌, ◌<◌, ℤ, List, [], length, Option, Some, None, sym, ◌∙◌, subst}
 use Rattle.std.specs.Prelude.{slice_index_or}
 use Rattle.wm_domain.specs.declared.shape.Shape.{Shape}
 use Rattle.wm_domain.specs.Points.{Point}
-use Rattle.wm_domain.specs.States.{count_of, array_count, InShape, Keeps}
+use Rattle.wm_domain.specs.States.{array_count, Keeps}
 use Rattle.wm_domain.specs.Changes.{Projected, IsPicked, IsPickedCell}
-use Rattle.wm_carry.specs.Following.{origin, array_origin, Comes, Follows, FollowsCells, Carried, Moved}
+use Rattle.wm_carry.specs.Following.{origin, array_origin, Comes, Moved}
 use Rattle.wm_carry.proofs.Ranks.{side, count_is, array_here, array_new}
 
 picked_from : (o : Option ℕ) (was : Point) (z : ℤ) → Comes was o z → IsPicked o was z

@@ -1,13 +1,13 @@
 -- A variable that changes between two nodes: the point before the change at the next node, and the point after it at the
 -- first one.
-use Rattle.std.proofs.Common.{◌≡◌, ◌≢◌, ◌⊎◌, inl, inr, ℕ, ◌<◌, ℤ, List, [], ◌∷◌, length, Option, Some, None, refl, sym, ◌∙◌, ap, subst, arith}
+use Rattle.std.proofs.Common.{◌≡◌, inl, inr, ℕ, ◌<◌, ℤ, List, [], ◌∷◌, Option, Some, None, refl, sym, ◌∙◌, ap, subst}
 use Rattle.std.proofs.lemmas.Bool.{cases_eq}
 use Rattle.wm_interval.specs.Holds.{Holds}
 use Rattle.wm_domain.specs.declared.shape.Shape.{Shape}
 use Rattle.wm_domain.specs.Points.{Point, SameBut, range_at}
-use Rattle.wm_domain.specs.States.{variables_of, count_of, array_count, InShape}
+use Rattle.wm_domain.specs.States.{variables_of, count_of, InShape}
 use Rattle.wm_domain.proofs.Moving.{moved-here, moved-there, with_value, with_value-but}
-use Rattle.wm_carry.specs.Following.{origin, Comes, IsApart, IsWay, Follows, FollowsCells, Carried, Moved}
+use Rattle.wm_carry.specs.Following.{origin, Comes, IsWay, Follows, FollowsCells, Carried, Moved}
 use Rattle.wm_carry.proofs.Ranks.{origin_below, origin_apart}
 
 -- the number before a change: that of the variable from which it comes, or any

@@ -1,15 +1,11 @@
 -- A state at the next node holds exactly what follows the state before: each of its points cannot but follow one of it.
-use Rattle.std.proofs.Common.{◌≡◌, ◌≢◌, ◌⊎◌, inl, inr, ℕ, zero, suc, ◌+◌, ◌-◌, ◌<◌, ◌≤◌, ℤ, pos, ◌+ℤ◌, ◌≤ℤ◌, Bool, true, false, cond, nat_lt, [], length, Option, Some, None, refl, sym, ◌∙◌, ap, subst, arith}
-use Rattle.std.specs.Prelude.{IsTrue}
-use Rattle.std.proofs.lemmas.Bool.{cases_eq}
+use Rattle.std.proofs.Common.{◌≡◌, ◌⊎◌, inl, inr, ℕ, zero, suc, ◌+◌, ◌-◌, ◌<◌, ◌≤◌, ℤ, pos, ◌+ℤ◌, ◌≤ℤ◌, Bool, true, false, cond, nat_lt, [], length, Option, Some, None, refl, sym, ◌∙◌, ap, subst, arith}
 use Rattle.wm_interval.specs.Holds.{Holds}
-use Rattle.wm_arrays.specs.declared.summary.Summary.{Summary}
-use Rattle.wm_arrays.specs.declared.summary.Summary.TheVariants.{Empty, Range}
-use Rattle.wm_domain.specs.declared.form.Term.{Term}
+use Rattle.wm_arrays.specs.declared.summary.Summary.TheVariants.{Empty}
 use Rattle.wm_domain.specs.declared.shape.Shape.{Shape}
-use Rattle.wm_domain.specs.Points.{Point, range_at, AllowsCell}
+use Rattle.wm_domain.specs.Points.{Point, AllowsCell}
 use Rattle.wm_domain.specs.Forms.{signed, term_value}
-use Rattle.wm_domain.specs.States.{variables_of, count_of, array_count, InShape}
+use Rattle.wm_domain.specs.States.{count_of, array_count, InShape}
 use Rattle.wm_domain.specs.Bounds.{Bound, NoPoint, TermBelow, SumBelow, CellIn, Meets, IsBound, MeetsAll}
 use Rattle.wm_domain.proofs.Moving.{moved, moved-there}
 use Rattle.wm_carry.specs.Following.{origin, IsWay, Follows, FollowsCells, Carried, Moved}

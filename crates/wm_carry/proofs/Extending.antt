@@ -1,11 +1,10 @@
 -- A variable that points need not have: numbers that meet all bounds on some variables have a number of one more variable
 -- with which they meet all bounds on it too.
-use Rattle.std.proofs.Common.{◌≡◌, ◌≢◌, ◌⊎◌, inl, inr, ℕ, zero, suc, ◌+◌, ◌/◌, ◌<◌, ℤ, pos, negsuc, neg_ℤ, ◌+ℤ◌, ◌-ℤ◌, ◌≤ℤ◌, ◌<ℤ◌, Bool, true, false, refl, sym, ◌∙◌, ap, subst, arith, length, length-append}
+use Rattle.std.proofs.Common.{◌≡◌, ◌≢◌, ◌⊎◌, inl, inr, ℕ, zero, suc, ◌+◌, ◌/◌, ◌<◌, ℤ, pos, negsuc, neg_ℤ, ◌+ℤ◌, ◌-ℤ◌, ◌≤ℤ◌, ◌<ℤ◌, Bool, true, false, sym, ◌∙◌, ap, subst, arith, length, length-append}
 use Rattle.std.specs.Prelude.{IsTrue}
 use Rattle.std.proofs.lemmas.Bool.{cases_eq}
 use Rattle.std.proofs.lemmas.Int.{ints}
 use Rattle.wm_numbers.proofs.Order.{le_or_lt}
-use Rattle.wm_interval.specs.Holds.{Holds}
 use Rattle.wm_domain.specs.declared.form.Term.{Term}
 use Rattle.wm_domain.specs.declared.shape.Shape.{Shape}
 use Rattle.wm_domain.specs.Points.{Point, range_at}

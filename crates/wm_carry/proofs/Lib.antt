@@ -2,5 +2,6 @@ pub mod Carrying
 pub mod Changing
 pub mod Exact
 pub mod Extending
+pub mod Passing
 pub mod Ranks
 pub mod Reaching

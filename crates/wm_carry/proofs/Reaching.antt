@@ -1,8 +1,6 @@
 -- Least states through several calls: a bound that all wanted points meet is met by each point of the least state, and a
 -- state holds each point that meets all its bounds.
-use Rattle.std.proofs.Common.{◌≡◌, inl, inr, ℤ, Option, Some, None, Bool, sym, subst}
-use Rattle.wm_interval.specs.declared.Interval.{Interval}
-use Rattle.wm_interval.specs.Holds.{Holds}
+use Rattle.std.proofs.Common.{ℤ, Option, Some, None, Bool, sym, subst}
 use Rattle.wm_arrays.specs.declared.summary.Summary.{Summary}
 use Rattle.wm_arrays.specs.declared.summary.Summary.TheVariants.{Empty, Range}
 use Rattle.wm_domain.specs.declared.shape.Shape.{Shape}
