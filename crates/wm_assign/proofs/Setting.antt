@@ -1,5 +1,5 @@
 -- The points of a state where one variable gets a number.
-use Rattle.std.proofs.Common.{◌≡◌, ◌≢◌, ◌⊎◌, inl, inr, ℕ, ◌<◌, ℤ, ◌-ℤ◌, ◌+ℤ◌, List, [], ◌∷◌, Option, Some, None, refl, sym, ◌∙◌, ap, subst}
+use Rattle.std.proofs.Common.{◌≡◌, ℕ, ◌<◌, ℤ, ◌-ℤ◌, ◌+ℤ◌, List, [], ◌∷◌, Option, Some, None, refl, sym, ◌∙◌, ap, subst}
 use Rattle.std.specs.Prelude.{◌↔◌}
 use Rattle.wm_interval.specs.declared.Interval.{Interval}
 use Rattle.wm_interval.specs.Holds.{Holds}
@@ -11,7 +11,7 @@ use Rattle.wm_domain.specs.Forms.{signed, terms_value, form_value, AreTerms, IsF
 use Rattle.wm_domain.specs.States.{count_of, InShape, Keeps}
 use Rattle.wm_domain.specs.Changes.{Freed, Assigned, Near}
 use Rattle.wm_domain.proofs.Moving.{same_but_all}
-use Rattle.wm_carry.specs.Following.{origin, Comes, IsWay, Follows, Carried, Moved}
+use Rattle.wm_carry.specs.Following.{origin, Comes, IsWay, Follows, Moved}
 use Rattle.wm_carry.proofs.Changing.{before, after, after_moved, new_follows}
 use Rattle.wm_assign.specs.Giving.{Sets, IsSeen, AreSeen}
 
@@ -84,7 +84,7 @@ near_new s t Mid v w d r e seen was p h f k = record {
 pub form_old : (Has Copy : Point → Type 0) (o : ℕ) (f : Form) → ((p : Point) → Copy p ↔ Has p) → (was q : Point) (z : ℤ) → Has was → SameBut o was q → q.values o ≡ z → z ≡ form_value was.values f → Assigned Copy o f q
 form_old Has Copy o f same was q z h s n k = record { was = was; point = (same was).1 h; others = s; value = n ∙ k }
 
-same_terms : (s t : Shape) (v : ℕ) (was p : Point) (ts : List Term) → origin s t v ≡ None → AreSeen s t v ts → Follows s t [] was p → terms_value p.values ts ≡ terms_value was.values ts
+pub same_terms : (s t : Shape) (v : ℕ) (was p : Point) (ts : List Term) → origin s t v ≡ None → AreSeen s t v ts → Follows s t [] was p → terms_value p.values ts ≡ terms_value was.values ts
 same_terms s t v was p [] e seen f = refl
 same_terms s t v was p (u ∷ rest) e seen f =
     ap (λ (x : ℤ). signed u.negative x +ℤ terms_value p.values rest) (seen_number s t v u.variable was p e seen.0 f)

@@ -2,7 +2,7 @@
 ghost use Rattle.std.specs.Prelude.{◌≡◌, ◌<◌, ◌-ℤ◌, IfOk};
 ghost use Rattle.wm_interval.specs.Holds.{Holds};
 ghost use Rattle.wm_domain.specs.Forms.{IsForm, IsSimple, form_value};
-ghost use Rattle.wm_domain.specs.States.{count_of, Keeps, IsBare, IsSized};
+ghost use Rattle.wm_domain.specs.States.{count_of, Keeps, IsLeast, IsBare, IsSized};
 ghost use Rattle.wm_carry.specs.Following.{IsWay};
 ghost use Rattle.wm_assign.specs.Giving.{Sets, IsSeen, AreSeen};
 
@@ -31,6 +31,7 @@ pub fn any<D: Domain>(way: &Way, at: &D, v: u32, r: Interval) -> Result<D, NoMem
     requires range { IsSized r }
     ensures shape { IfOk result (λ s. D.shape_of s ≡ way.now.target.now) }
     ensures sound { IfOk result (λ s. Keeps D.holds D.shape_of s (Sets way.now.source.now way.now.target.now (D.holds at.now) v (λ was z. Holds r z))) }
+    ensures least { IfOk result (λ s. IsLeast D.holds D.shape_of s (Sets way.now.source.now way.now.target.now (D.holds at.now) v (λ was z. Holds r z))) }
 {
     let mut state = carried(way, at)?;
     state.assign_range(v, r);
@@ -56,6 +57,7 @@ pub fn near<D: Domain>(
     requires range { IsSized r }
     ensures shape { IfOk result (λ s. D.shape_of s ≡ way.now.target.now) }
     ensures sound { IfOk result (λ s. Keeps D.holds D.shape_of s (Sets way.now.source.now way.now.target.now (D.holds at.now) v (λ was z. Holds r z × Holds d (z -ℤ was.values from)))) }
+    ensures least { IfOk result (λ s. IsLeast D.holds D.shape_of s (Sets way.now.source.now way.now.target.now (D.holds at.now) v (λ was z. Holds r z × Holds d (z -ℤ was.values from)))) }
 {
     match origin(way, v as usize) {
         Some(old) => {
@@ -83,6 +85,7 @@ pub fn exact<D: Domain>(way: &Way, at: &D, v: u32, f: &Form) -> Result<D, NoMemo
     requires seen { AreSeen way.now.source.now way.now.target.now v f.now.terms }
     ensures shape { IfOk result (λ s. D.shape_of s ≡ way.now.target.now) }
     ensures sound { IfOk result (λ s. Keeps D.holds D.shape_of s (Sets way.now.source.now way.now.target.now (D.holds at.now) v (λ was z. z ≡ form_value was.values f.now))) }
+    ensures least { IfOk result (λ s. IsLeast D.holds D.shape_of s (Sets way.now.source.now way.now.target.now (D.holds at.now) v (λ was z. z ≡ form_value was.values f.now))) }
 {
     match origin(way, v as usize) {
         Some(old) => {

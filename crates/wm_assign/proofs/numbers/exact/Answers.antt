@@ -1,7 +1,8 @@
-use Rattle.std.proofs.Common.{◌≡◌, ◌<◌, ℕ, ℤ, sym, subst, ◌∙◌}
+use Rattle.std.proofs.Common.{◌≡◌, ◌<◌, ℤ, sym, subst, ◌∙◌}
 use Rattle.wm_domain.specs.Forms.{form_value}
 use Rattle.wm_domain.specs.Changes.{Assigned}
 use Rattle.wm_assign.proofs.Setting.{keeps_old, keeps_new, form_old, form_new}
+use Rattle.wm_assign.proofs.Leasts.{form_old_least, form_new_least}
 use Rattle.wm_domain.specs.declared.shape.Shape.{Shape}
 use Rattle.wm_domain.specs.Points.{Point}
 use Rattle.wm_domain.specs.States.{count_of, InShape}
@@ -44,3 +45,17 @@ returns-in_ok-state-in-None-clause-sound g c =
     (c.assign_form-in-None.ensures.shape ∙ c.in_ok-state-in-None.ensures.shape)
     c.in_ok-state-in-None.ensures.sound c.assign_form-in-None.ensures.sound
     (form_new s t Mid c.args.v c.args.f.now (sym c.in-None.ensures) c.requires.seen)
+
+pub returns-in_ok-moved-in-Some-clause-least : goal.returns-in_ok-moved-in-Some-clause-least
+returns-in_ok-moved-in-Some-clause-least g c =
+    let way = c.args.way.now in
+    form_old_least g.row.D.Denot g.D.Domain.PAIRS g.D.Domain.holds g.D.Domain.shape_of (record { inside = g.met.D.Domain.inside; closed = g.met.D.Domain.closed; cuts = g.met.D.Domain.cuts }) way.source.now way.target.now c.requires.way c.args.at.now c.assign_form.new.self c.in_ok-moved-in-Some.moved
+    c.requires.shape c.in_ok-moved-in-Some.ensures.shape (c.assign_form.ensures.shape ∙ c.in_ok-state-in-Some.ensures.shape ∙ c.requires.shape) c.args.v c.in-Some.old c.requires.inside (sym c.in-Some.ensures)
+    (g.D.Domain.holds c.in_ok-state-in-Some.state) c.args.f.now c.in_ok-state-in-Some.ensures.same c.assign_form.ensures.sound c.assign_form.ensures.least c.in_ok-moved-in-Some.ensures.least
+
+pub returns-in_ok-state-in-None-clause-least : goal.returns-in_ok-state-in-None-clause-least
+returns-in_ok-state-in-None-clause-least g c =
+    let way = c.args.way.now in
+    form_new_least g.row.D.Denot g.D.Domain.PAIRS g.D.Domain.holds g.D.Domain.shape_of (record { inside = g.met.D.Domain.inside; closed = g.met.D.Domain.closed; cuts = g.met.D.Domain.cuts }) way.source.now way.target.now c.requires.way c.args.at.now c.in_ok-state-in-None.state c.assign_form-in-None.new.self
+    c.requires.shape (c.assign_form-in-None.ensures.shape ∙ c.in_ok-state-in-None.ensures.shape) c.in_ok-state-in-None.ensures.shape c.in_ok-state-in-None.ensures.sound c.in_ok-state-in-None.ensures.least c.args.v
+    c.args.f.now (sym c.in-None.ensures) c.requires.seen c.assign_form-in-None.ensures.least
