@@ -1,6 +1,6 @@
 // A state at the next node, where some variables have any numbers.
 ghost use Rattle.std.specs.Prelude.{◌≡◌, ◌≢◌, ℕ, ◌+◌, ◌<◌, [], All, length, slice_index_or, None, IfOk};
-ghost use Rattle.wm_domain.specs.States.{Keeps};
+ghost use Rattle.wm_domain.specs.States.{Keeps, IsLeast};
 ghost use Rattle.wm_carry.specs.Following.{IsWay, Moved};
 ghost use Rattle.wm_cleared.specs.Dropping.{Dropped};
 
@@ -39,6 +39,7 @@ pub fn cleared<D: Domain>(way: &Way, at: &D, variables: &[u32]) -> Result<D, NoM
     requires inside { All (λ v. v < length way.now.target.now.group + length way.now.target.now.singles) variables.now }
     ensures shape { IfOk result (λ s. D.shape_of s ≡ way.now.target.now) }
     ensures sound { IfOk result (λ s. Keeps D.holds D.shape_of s (Moved way.now.source.now way.now.target.now (D.holds at.now) variables.now [])) }
+    ensures least { IfOk result (λ s. IsLeast D.holds D.shape_of s (Moved way.now.source.now way.now.target.now (D.holds at.now) variables.now [])) }
 {
     let picks = dropped(way, variables)?;
     let arrays = array_picks(way)?;

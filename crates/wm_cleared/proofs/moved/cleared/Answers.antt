@@ -1,9 +1,9 @@
 use Rattle.std.proofs.Common.{ℕ, List, Option, sym, subst}
 use Rattle.wm_domain.specs.declared.shape.Shape.{Shape}
-use Rattle.wm_domain.specs.States.{count_of, array_count, Keeps}
+use Rattle.wm_domain.specs.States.{count_of, array_count, Keeps, IsLeast}
 use Rattle.wm_domain.specs.Changes.{ArePicks, Projected}
 use Rattle.wm_carry.proofs.Ranks.{are_array_picks}
-use Rattle.wm_cleared.proofs.Letting.{dropped_picks, keeps_dropped}
+use Rattle.wm_cleared.proofs.Letting.{dropped_picks, keeps_dropped, least_dropped}
 use Rattle.wm_cleared.proofs.moved.cleared.Goals as goal
 
 pub project-requires-clause-picks : goal.project-requires-clause-picks
@@ -26,3 +26,12 @@ returns-clause-sound g c =
     c.in_ok-picks.ensures.long c.in_ok-arrays.ensures.long c.in_ok-picks.ensures.dropped c.in_ok-arrays.ensures.each
     (subst (λ (xs : List (Option ℕ)). Keeps g.D.Domain.holds g.D.Domain.shape_of c.in_ok-state.state (Projected Has xs c.in_ok-arrays.arrays.items)) c.deref.ensures.value
     (subst (λ (xs : List (Option ℕ)). Keeps g.D.Domain.holds g.D.Domain.shape_of c.in_ok-state.state (Projected Has c.deref.result.now xs)) c.deref-2.ensures.value c.in_ok-state.ensures.sound))
+
+pub returns-clause-least : goal.returns-clause-least
+returns-clause-least g c =
+    let way = c.args.way.now in
+    let Has = g.D.Domain.holds c.args.at.now in
+    least_dropped g.D.Domain.holds g.D.Domain.shape_of c.in_ok-state.state way.source.now way.target.now Has c.args.variables.now c.in_ok-picks.picks.items c.in_ok-arrays.arrays.items
+    c.in_ok-picks.ensures.long c.in_ok-arrays.ensures.long c.in_ok-picks.ensures.dropped c.in_ok-arrays.ensures.each
+    (subst (λ (xs : List (Option ℕ)). IsLeast g.D.Domain.holds g.D.Domain.shape_of c.in_ok-state.state (Projected Has xs c.in_ok-arrays.arrays.items)) c.deref.ensures.value
+    (subst (λ (xs : List (Option ℕ)). IsLeast g.D.Domain.holds g.D.Domain.shape_of c.in_ok-state.state (Projected Has c.deref.result.now xs)) c.deref-2.ensures.value c.in_ok-state.ensures.least))
