@@ -7,7 +7,7 @@ use Rattle.wm_domain.specs.declared.shape.Shape.{Shape}
 use Rattle.wm_domain.specs.declared.form.Form.{Form}
 use Rattle.wm_domain.specs.Points.{Point, SameBut}
 use Rattle.wm_domain.specs.Forms.{form_value}
-use Rattle.wm_domain.specs.States.{count_of, Keeps, IsLeast}
+use Rattle.wm_domain.specs.States.{count_of, InShape, Keeps, IsLeast}
 use Rattle.wm_domain.specs.Changes.{Freed, Assigned, Near}
 use Rattle.wm_carry.specs.Following.{origin, Comes, IsWay, Carried, Moved}
 use Rattle.wm_carry.proofs.Ranks.{origin_apart}
@@ -85,3 +85,9 @@ module _ (S : Type 0) (pairs : Bool) (holds : S → Point → Type 0) (shape_of 
     pub form_old_least : (Copy : Point → Type 0) (f : Form) → ((p : Point) → Copy p ↔ holds at p) → Keeps holds shape_of middle (Assigned Copy o f) → IsLeast holds shape_of middle (Assigned Copy o f)
         → IsLeast holds shape_of state (Moved s t (holds middle) [] []) → IsLeast holds shape_of state (Sets s t (holds at) v (λ was z. z ≡ form_value was.values f))
     form_old_least Copy f same k l ls = before_least (λ was z. z ≡ form_value was.values f) (Assigned Copy o f) (λ q h. h.was) (λ q h. (same h.was).0 h.point) (λ q h. h.others) (λ q h. h.value) k l ls
+
+-- the least state for some numbers is the least for more numbers that keeps them
+pub least_more : {S : Type 0} (Holds_of : S → Point → Type 0) (shape_of : S → Shape) (state : S) (s t : Shape) (Has : Point → Type 0) (v : ℕ) (What More : Point → ℤ → Type 0) → ((was p : Point) → Has was → InShape (shape_of state) p → What was (p.values v) → More was (p.values v))
+    → IsLeast Holds_of shape_of state (Sets s t Has v What) → IsLeast Holds_of shape_of state (Sets s t Has v More)
+least_more Holds_of shape_of state s t Has v What More to l = least_as Holds_of shape_of state (Sets s t Has v What) (Sets s t Has v More)
+    (λ p i h. record { was = h.was; carried = h.carried; value = to h.was p h.carried.point i h.value }) l
