@@ -44,6 +44,7 @@ operand_of Has f all (Some r) el eh cut =
       sizes = record { low_size = most_size r.low low; high_size = most_size r.high high };
       below = record { low_size = below_size r.low low; high_size = below_size r.high high };
       all = λ z i. (cut z).1 (i.0, word_in all z el eh i.1);
+      only = λ z h. let b = (cut z).0 h in (b.0, in_word all z el eh b.1);
     }
 
 pub none_kept : (results all : Interval) (z : ℤ) → all.low ≡ negsuc 2147483647 → all.high ≡ pos 2147483647 → ((z : ℤ) → InBoth results all z → ⊥) → Holds results z → IsWord32 z → ⊥
@@ -51,6 +52,9 @@ none_kept results all z el eh bare h w = bare z (h, word_in all z el eh w)
 
 pub some_kept : (results all r : Interval) (z : ℤ) → all.low ≡ negsuc 2147483647 → all.high ≡ pos 2147483647 → ((z : ℤ) → Holds r z ↔ InBoth results all z) → Holds results z → IsWord32 z → Holds r z
 some_kept results all r z el eh each h w = (each z).1 (h, word_in all z el eh w)
+
+pub only_kept : (results all r : Interval) (z : ℤ) → all.low ≡ negsuc 2147483647 → all.high ≡ pos 2147483647 → ((z : ℤ) → Holds r z ↔ InBoth results all z) → Holds r z → Holds results z × IsWord32 z
+only_kept results all r z el eh each h = let b = (each z).0 h in (b.0, in_word all z el eh b.1)
 
 pub kept_sized : (results all r : Interval) → all.low ≡ negsuc 2147483647 → all.high ≡ pos 2147483647 → ((z : ℤ) → Holds r z ↔ InBoth results all z) → IsSized r
 kept_sized results all r el eh each = record {
@@ -63,3 +67,21 @@ in_results Has operation f g x y r hx hy hull z i = record {
   above = le_trans (hull.low_is.least (operation i.a i.b) (record { x = i.a; y = i.b; x_in = hx.all i.a i.a_in; y_in = hy.all i.b i.b_in; gives = refl })) i.above;
   below = le_trans i.below (hull.high_is.greatest (operation i.c i.d) (record { x = i.c; y = i.d; x_in = hx.all i.c i.c_in; y_in = hy.all i.d i.d_in; gives = refl }));
 }
+
+pub made_results : (Has : Point → Type 0) (operation : ℤ → ℤ → ℤ) (f g : Form) (x y r : Interval) → HoldsOperand Has f x → HoldsOperand Has g y → IsHullOf (ResultOn operation x y) r → (z : ℤ) → Holds r z × IsWord32 z → InResults Has operation f g z
+made_results Has operation f g x y r hx hy hull z k =
+    let low = hull.low_is.attained in
+    let high = hull.high_is.attained in
+    record {
+      a = low.x;
+      b = low.y;
+      c = high.x;
+      d = high.y;
+      a_in = hx.only low.x low.x_in;
+      b_in = hy.only low.y low.y_in;
+      c_in = hx.only high.x high.x_in;
+      d_in = hy.only high.y high.y_in;
+      above = subst (λ (w : ℤ). w ≤ℤ z) (sym low.gives) k.0.above;
+      below = subst (λ (w : ℤ). z ≤ℤ w) (sym high.gives) k.0.below;
+      fits = k.1;
+    }

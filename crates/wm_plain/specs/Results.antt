@@ -25,11 +25,12 @@ pub record InResults (Has : Point → Type 0) (operation : ℤ → ℤ → ℤ) 
   pub below : z ≤ℤ operation c d
   pub fits : IsWord32 z
 
--- the interval holds the numbers of 32 bits of the form, and no number of more; none where there are none
+-- the interval holds exactly the numbers of 32 bits of the form; none where there are none
 pub record HoldsOperand (Has : Point → Type 0) (f : Form) (r : Interval) : Type 0 where
   pub sizes : SizesAtMost (2 ^ 31) r
   pub below : SizesBelow (2 ^ 62) r
   pub all : (z : ℤ) → InWord32 Has f z → Holds r z
+  pub only : (z : ℤ) → Holds r z → InWord32 Has f z
 
 abbrev pub IsOperand : (Point → Type 0) → Form → Option Interval → Type 0
 IsOperand Has f None = (z : ℤ) → InWord32 Has f z → ⊥

@@ -26,6 +26,7 @@ pub fn operand<D: Domain>(at: &D, f: &Form) -> Option<Interval>
 /// The numbers of 32 bits of the interval; None where there are none.
 pub fn kept(results: Interval) -> Option<Value>
     ensures allowed { (was : Point) (z : ℤ) → Holds results z → IsWord32 z → Allowed result was z }
+    ensures made { (was : Point) (z : ℤ) → Allowed result was z → Holds results z × IsWord32 z }
     ensures fit { (s t : Shape) (v : ℕ) → IsFit s t v result }
 {
     let all = Interval::new(-2147483648, 2147483647);
@@ -40,6 +41,7 @@ pub fn sum<D: Domain>(at: &D, f: &Form, g: &Form) -> Option<Value>
     requires first { IsForm (count_of (D.shape_of at.now)) f.now }
     requires second { IsForm (count_of (D.shape_of at.now)) g.now }
     ensures allowed { (was : Point) (z : ℤ) → InResults (D.holds at.now) ◌+ℤ◌ f.now g.now z → Allowed result was z }
+    ensures made { (was : Point) (z : ℤ) → Allowed result was z → InResults (D.holds at.now) ◌+ℤ◌ f.now g.now z }
     ensures fit { (s t : Shape) (v : ℕ) → IsFit s t v result }
 {
     match operand(at, f) {
@@ -56,6 +58,7 @@ pub fn difference<D: Domain>(at: &D, f: &Form, g: &Form) -> Option<Value>
     requires first { IsForm (count_of (D.shape_of at.now)) f.now }
     requires second { IsForm (count_of (D.shape_of at.now)) g.now }
     ensures allowed { (was : Point) (z : ℤ) → InResults (D.holds at.now) ◌-ℤ◌ f.now g.now z → Allowed result was z }
+    ensures made { (was : Point) (z : ℤ) → Allowed result was z → InResults (D.holds at.now) ◌-ℤ◌ f.now g.now z }
     ensures fit { (s t : Shape) (v : ℕ) → IsFit s t v result }
 {
     match operand(at, f) {
@@ -72,6 +75,7 @@ pub fn product<D: Domain>(at: &D, f: &Form, g: &Form) -> Option<Value>
     requires first { IsForm (count_of (D.shape_of at.now)) f.now }
     requires second { IsForm (count_of (D.shape_of at.now)) g.now }
     ensures allowed { (was : Point) (z : ℤ) → InResults (D.holds at.now) ◌*ℤ◌ f.now g.now z → Allowed result was z }
+    ensures made { (was : Point) (z : ℤ) → Allowed result was z → InResults (D.holds at.now) ◌*ℤ◌ f.now g.now z }
     ensures fit { (s t : Shape) (v : ℕ) → IsFit s t v result }
 {
     match operand(at, f) {
