@@ -12,10 +12,12 @@ use Rattle.wm_arrays.specs.Meaning.{IsLeastFor}
 use Rattle.wm_domain.specs.declared.shape.Shape.{Shape}
 use Rattle.wm_domain.specs.declared.form.Form.{Form}
 use Rattle.wm_domain.specs.Points.{Point, SameButCell, AllowsCell, range_at, nought, IsNarrow}
-use Rattle.wm_domain.specs.States.{count_of, array_count, IsShape, InShape, IsSized, IsCellBetween, Keeps}
+use Rattle.wm_domain.specs.States.{count_of, array_count, IsShape, InShape, IsSized, IsCellBetween, Keeps, IsLeast}
 use Rattle.wm_domain.specs.Changes.{ArraySet, Written, IsCellOf}
-use Rattle.wm_carry.specs.Following.{IsWay, Carried, Moved}
+use Rattle.wm_carry.specs.Following.{origin, Comes, IsWay, Carried, Moved}
 use Rattle.wm_carry.proofs.Ranks.{side}
+use Rattle.wm_carry.proofs.Reaching.{Laws, through_not}
+use Rattle.wm_carry.proofs.Passing.{carried_not}
 use Rattle.wm_assign.specs.Giving.{InRange}
 use Rattle.wm_given.specs.Parts.{IsCut}
 use Rattle.wm_celled.specs.Cells.{ArraySetTo, WrittenTo, cells_range, IsCells}
@@ -129,6 +131,41 @@ module _ {S : Type 0} (Holds_of : S → Point → Type 0) (shape_of : S → Shap
         });
   }
 
+-- ---- the other way
+
+-- what follows a point follows it but for the array's cell after that has changed
+changed : (s t : Shape) (Has : Point → Type 0) (a : ℕ) (was q y : Point) → Carried s t Has [] [] was q → SameButCell a q y → Carried s t Has [] (a ∷ []) was y
+changed s t Has a was q y c o = record {
+  point = c.point;
+  numbers = record { numbers = λ v h n. subst (Comes was (origin s t v)) (sym (o.numbers v)) (c.numbers.numbers v h n) };
+  cells = record { kept = λ b h l n. o.cells b n.0 ∙ c.cells.kept b h l tt; new = λ b h l n. o.cells b n.0 ∙ c.cells.new b h l tt };
+}
+
+module _ (S : Type 0) (pairs : Bool) (Holds_of : S → Point → Type 0) (shape_of : S → Shape) (laws : Laws S pairs Holds_of shape_of) (s t : Shape) (way : IsWay s t) (at middle state : S) (ea : shape_of at ≡ s) (em : shape_of middle ≡ t)
+    (km : Keeps Holds_of shape_of middle (Moved s t (Holds_of at) [] [])) (lm : IsLeast Holds_of shape_of middle (Moved s t (Holds_of at) [] [])) where
+  pub set_least : (a : ℕ) (sm : Summary) → IsLeast Holds_of shape_of state (ArraySet (Holds_of middle) a sm) → IsLeast Holds_of shape_of state (ArraySetTo s t (Holds_of at) a sm)
+  set_least a sm l = through_not S pairs Holds_of shape_of laws state (ArraySet (Holds_of middle) a sm) (ArraySetTo s t (Holds_of at) a sm)
+      (λ y w never. carried_not S pairs Holds_of shape_of laws s t way at middle ea em km lm w.is.was w.is.point
+      (λ m. never (record { was = m.was; carried = changed s t (Holds_of at) a m.was w.is.was y m.carried w.is.others; cell = w.is.cell })))
+      l
+
+  pub written_least : (a n : ℕ) (full r : Interval) (value : Form) → a < array_count s → a < array_count t → full ≡ range_at t.arrays a → IsCut (Holds_of at) value full (Some r)
+      → IsLeast Holds_of shape_of state (Written (Holds_of middle) (range_at (shape_of middle).arrays a) a r n) → IsLeast Holds_of shape_of state (WrittenTo s t (Holds_of at) a (range_at t.arrays a) value n)
+  written_least a n full r value hs ha ef cut l = through_not S pairs Holds_of shape_of laws state (Written (Holds_of middle) (range_at (shape_of middle).arrays a) a r n) (WrittenTo s t (Holds_of at) a (range_at t.arrays a) value n)
+      (λ y w never. carried_not S pairs Holds_of shape_of laws s t way at middle ea em km lm w.is.was w.is.point
+      (λ m. never (record {
+        was = m.was;
+        carried = changed s t (Holds_of at) a m.was w.is.was y m.carried w.is.others;
+        number = w.is.number;
+        in_range = ((cut w.is.number).0 w.is.in_range).0;
+        fits = subst (λ (x : Shape). Holds (range_at x.arrays a) w.is.number) em w.is.fits;
+        cell = elim w.is.cell [
+          | inl e ↦ inl e
+          | inr k ↦ inr (k.0, k.1 ∙ m.carried.cells.kept a ha hs tt)
+        ];
+      })))
+      l
+
 -- ---- reading
 
 size_of : (low high z : ℤ) → IsWord32 low → IsWord32 high → low ≤ℤ z → z ≤ℤ high → unsigned_abs z < 2 ^ 50
@@ -145,8 +182,22 @@ pub cells_of : (shape : Shape) (Has : Point → Type 0) (a : ℕ) (s : Summary) 
 cells_of shape Has a Empty sh h inside least = λ z b. least b.low (record { x = b.x; is = b.x_is; gives = b.x_cell })
 cells_of shape Has a (Range r) sh h inside least = (
   record { low_size = cell_size shape Has a r.low sh h inside least.low_is.attained; high_size = cell_size shape Has a r.high sh h inside least.high_is.attained },
-  λ z b. record {
-    above = le_trans (least.low_is.least b.low (record { x = b.x; is = b.x_is; gives = b.x_cell })) b.above;
-    below = le_trans b.below (least.high_is.greatest b.high (record { x = b.y; is = b.y_is; gives = b.y_cell }));
-  },
+  λ z. (
+    λ b. record {
+      above = le_trans (least.low_is.least b.low (record { x = b.x; is = b.x_is; gives = b.x_cell })) b.above;
+      below = le_trans b.below (least.high_is.greatest b.high (record { x = b.y; is = b.y_is; gives = b.y_cell }));
+    },
+    λ i. record {
+      x = least.low_is.attained.x;
+      y = least.high_is.attained.x;
+      x_is = least.low_is.attained.is;
+      y_is = least.high_is.attained.is;
+      low = r.low;
+      high = r.high;
+      x_cell = least.low_is.attained.gives;
+      y_cell = least.high_is.attained.gives;
+      above = i.above;
+      below = i.below;
+    },
+  ),
 )

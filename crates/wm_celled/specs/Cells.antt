@@ -1,5 +1,5 @@
 -- What follows a state where the cells of one array change.
-use Rattle.std.specs.Prelude.{ℕ, ◌≡◌, ◌≢◌, ◌⊎◌, ℤ, List, [], ◌∷◌, Option, Some, None}
+use Rattle.std.specs.Prelude.{ℕ, ◌≡◌, ◌≢◌, ◌⊎◌, ◌↔◌, ℤ, List, [], ◌∷◌, Option, Some, None}
 use Rattle.wm_interval.specs.declared.Interval.{Interval}
 use Rattle.wm_interval.specs.Holds.{Holds}
 use Rattle.wm_arrays.specs.declared.summary.Summary.{Summary}
@@ -31,7 +31,7 @@ abbrev pub cells_range : Summary → Option Interval
 cells_range Empty = None
 cells_range (Range r) = Some r
 
--- the interval holds the numbers between two of set cells; none where there are none
+-- the interval holds exactly the numbers between two of set cells; none where there are none
 abbrev pub IsCells : (Point → Type 0) → ℕ → Option Interval → Type 0
 IsCells Has a None = (z : ℤ) → IsCellBetween Has a z → ⊥
-IsCells Has a (Some r) = IsSized r × ((z : ℤ) → IsCellBetween Has a z → Holds r z)
+IsCells Has a (Some r) = IsSized r × ((z : ℤ) → IsCellBetween Has a z ↔ Holds r z)

@@ -2,7 +2,7 @@
 ghost use Rattle.std.specs.Prelude.{◌≡◌, ◌<◌, length, IfOk};
 ghost use Rattle.wm_domain.specs.Points.{range_at};
 ghost use Rattle.wm_domain.specs.Forms.{IsForm};
-ghost use Rattle.wm_domain.specs.States.{count_of, array_count, IsShape, Keeps, IsCellBetween};
+ghost use Rattle.wm_domain.specs.States.{count_of, array_count, IsShape, Keeps, IsLeast, IsCellBetween};
 ghost use Rattle.wm_carry.specs.Following.{IsWay};
 ghost use Rattle.wm_assign.specs.Giving.{Sets};
 ghost use Rattle.wm_celled.specs.Cells.{ArraySetTo, WrittenTo, IsCells, cells_range};
@@ -30,6 +30,7 @@ pub fn array_set<D: Domain>(way: &Way, at: &D, array: u32, summary: Summary) -> 
     requires inside { array < array_count way.now.target.now }
     ensures shape { IfOk result (λ s. D.shape_of s ≡ way.now.target.now) }
     ensures sound { IfOk result (λ s. Keeps D.holds D.shape_of s (ArraySetTo way.now.source.now way.now.target.now (D.holds at.now) array summary)) }
+    ensures least { IfOk result (λ s. IsLeast D.holds D.shape_of s (ArraySetTo way.now.source.now way.now.target.now (D.holds at.now) array summary)) }
 {
     let mut state = carried(way, at)?;
     state.set_array(array, summary);
@@ -68,6 +69,7 @@ pub fn read<D: Domain>(way: &Way, at: &D, array: u32, target: u32) -> Result<D, 
     requires inside { target < count_of way.now.target.now }
     ensures shape { IfOk result (λ s. D.shape_of s ≡ way.now.target.now) }
     ensures sound { IfOk result (λ s. Keeps D.holds D.shape_of s (Sets way.now.source.now way.now.target.now (D.holds at.now) target (λ was z. IsCellBetween (D.holds at.now) array z))) }
+    ensures least { IfOk result (λ s. IsLeast D.holds D.shape_of s (Sets way.now.source.now way.now.target.now (D.holds at.now) target (λ was z. IsCellBetween (D.holds at.now) array z))) }
 {
     match between_cells(at, array) {
         None => {
@@ -97,6 +99,7 @@ pub fn written<D: Domain>(
     requires form { IsForm (count_of (D.shape_of at.now)) value.now }
     ensures shape { IfOk result (λ s. D.shape_of s ≡ way.now.target.now) }
     ensures sound { IfOk result (λ s. Keeps D.holds D.shape_of s (WrittenTo way.now.source.now way.now.target.now (D.holds at.now) array (range_at way.now.target.now.arrays array) value.now length)) }
+    ensures least { IfOk result (λ s. IsLeast D.holds D.shape_of s (WrittenTo way.now.source.now way.now.target.now (D.holds at.now) array (range_at way.now.target.now.arrays array) value.now length)) }
 {
     let full = range_of(way.target.arrays.items(), array as usize);
     match cut(at, value, full) {
