@@ -1,7 +1,7 @@
 // The image of a state along the edge of a cast to 16 bits.
 ghost use Rattle.std.specs.Prelude.{◌≡◌, ◌<◌, IfOk};
 ghost use Rattle.wm_domain.specs.Forms.{IsForm};
-ghost use Rattle.wm_domain.specs.States.{count_of, Keeps};
+ghost use Rattle.wm_domain.specs.States.{count_of, Keeps, IsLeast};
 ghost use Rattle.wm_carry.specs.Following.{IsWay};
 ghost use Rattle.wm_assign.specs.Giving.{Sets};
 ghost use Rattle.wm_cast.specs.Casting.{InCast, IsNarrowed, IsCastRange};
@@ -43,6 +43,7 @@ pub fn cast<D: Domain>(way: &Way, at: &D, f: &Form, target: u32) -> Result<D, No
     requires inside { target < count_of way.now.target.now }
     ensures shape { IfOk result (λ s. D.shape_of s ≡ way.now.target.now) }
     ensures sound { IfOk result (λ s. Keeps D.holds D.shape_of s (Sets way.now.source.now way.now.target.now (D.holds at.now) target (λ was z. InCast (D.holds at.now) f.now z))) }
+    ensures least { IfOk result (λ s. IsLeast D.holds D.shape_of s (Sets way.now.source.now way.now.target.now (D.holds at.now) target (λ was z. InCast (D.holds at.now) f.now z))) }
 {
     match cast_range(at, f) {
         None => {
