@@ -1,1 +1,3 @@
+pub mod Betweens
+pub mod Crossing
 pub mod Liking

@@ -5,10 +5,11 @@ use Rattle.wm_domain.specs.declared.form.Term.{Term}
 use Rattle.wm_domain.specs.declared.form.Form.{Form}
 use Rattle.wm_domain.specs.declared.form.Relation.TheVariants.{AtMost}
 use Rattle.wm_domain.specs.Points.{Point}
-use Rattle.wm_domain.specs.Forms.{signed, term_value, terms_value, form_value, AreTerms, IsForm}
-use Rattle.wm_domain.specs.States.{Keeps, InShape}
+use Rattle.wm_domain.specs.Forms.{signed, term_value, terms_value, form_value, AreTerms, IsForm, AreBounded}
+use Rattle.wm_domain.specs.States.{Keeps, IsLeast, InShape}
 use Rattle.wm_domain.specs.declared.shape.Shape.{Shape}
 use Rattle.wm_domain.specs.Changes.{Kept}
+use Rattle.wm_carry.proofs.Reaching.{least_as}
 use Rattle.wm_tested.specs.Likes.{turned, like, Below, Above, Between}
 
 are_turned : (n : ℕ) (b : Bool) (ts : List Term) → AreTerms n ts → AreTerms n (map (turned b) ts)
@@ -61,3 +62,45 @@ pub keeps_between : {S : Type 0} (Holds : S → Point → Type 0) (shape_of : S 
 keeps_between Holds shape_of middle state Has f low high e a b = record {
   kept = λ p i h. b.kept p i (record { point = a.kept p (subst (λ (s : Shape). InShape s p) e i) (record { point = h.point; above = h.above }); below = h.below });
 }
+
+-- ---- the other way
+
+from_at_most : (s t c high : ℤ) → s ≡ t → (s +ℤ (c -ℤ high)) ≤ℤ pos 0 → (t +ℤ c) ≤ℤ high
+from_at_most s t c high e h = omega (arith, ints)
+
+from_at_least : (s t c low : ℤ) → s ≡ neg_ℤ t → (s +ℤ (low -ℤ c)) ≤ℤ pos 0 → low ≤ℤ (t +ℤ c)
+from_at_least s t c low e h = omega (arith, ints)
+
+kept_below : (Has : Point → Type 0) (f g : Form) (high x : ℤ) (p : Point) → x ≡ f.constant -ℤ high → g ≡ like f false x → Kept Has g AtMost p → Below Has f high p
+kept_below Has f g high x p d e k =
+    let h = subst (λ (y : Form). Kept Has y AtMost p) (e ∙ ap (like f false) d) k in
+    record { point = h.point; below = from_at_most (terms_value p.values (map (turned false) f.terms)) (terms_value p.values f.terms) f.constant high (sames p.values f.terms) h.meets }
+
+kept_above : (Has : Point → Type 0) (f g : Form) (low x : ℤ) (p : Point) → x ≡ low -ℤ f.constant → g ≡ like f true x → Kept Has g AtMost p → Above Has f low p
+kept_above Has f g low x p d e k =
+    let h = subst (λ (y : Form). Kept Has y AtMost p) (e ∙ ap (like f true) d) k in
+    record { point = h.point; above = from_at_least (terms_value p.values (map (turned true) f.terms)) (terms_value p.values f.terms) f.constant low (negatives p.values f.terms) h.meets }
+
+turned_same : (b : Bool) (n : ℕ) (t : Term) → t.variable < n → (turned b t).variable < n
+turned_same true n t h = h
+turned_same false n t h = h
+
+are_bounded : (pairs b : Bool) (n : ℕ) (ts : List Term) → AreBounded pairs n ts → AreBounded pairs n (map (turned b) ts)
+are_bounded pairs b n [] h = tt
+are_bounded pairs b n (t ∷ []) h = tt
+are_bounded pairs b n (t ∷ u ∷ rest) h = (h.0, turned_same b n t h.1, turned_same b n u h.2)
+
+like_bounded : (pairs b : Bool) (n : ℕ) (f g : Form) (x : ℤ) → g ≡ like f b x → AreBounded pairs n f.terms → AreBounded pairs n g.terms
+like_bounded pairs b n f g x e h = subst (λ (y : Form). AreBounded pairs n y.terms) (sym e) (are_bounded pairs b n f.terms h)
+
+pub least_below : {S : Type 0} (Holds : S → Point → Type 0) (shape_of : S → Shape) (state : S) (Has : Point → Type 0) (f g : Form) (high x : ℤ) → x ≡ f.constant -ℤ high → g ≡ like f false x → IsLeast Holds shape_of state (Kept Has g AtMost) → IsLeast Holds shape_of state (Below Has f high)
+least_below Holds shape_of state Has f g high x d e l = least_as Holds shape_of state (Kept Has g AtMost) (Below Has f high) (λ p i k. kept_below Has f g high x p d e k) l
+
+pub least_above : {S : Type 0} (Holds : S → Point → Type 0) (shape_of : S → Shape) (state : S) (Has : Point → Type 0) (f g : Form) (low x : ℤ) → x ≡ low -ℤ f.constant → g ≡ like f true x → IsLeast Holds shape_of state (Kept Has g AtMost) → IsLeast Holds shape_of state (Above Has f low)
+least_above Holds shape_of state Has f g low x d e l = least_as Holds shape_of state (Kept Has g AtMost) (Above Has f low) (λ p i k. kept_above Has f g low x p d e k) l
+
+pub made_below : (New Has : Point → Type 0) (pairs : Bool) (n : ℕ) (f g : Form) (high x : ℤ) → x ≡ f.constant -ℤ high → g ≡ like f false x → (AreBounded pairs n g.terms → (p : Point) → New p → Kept Has g AtMost p) → AreBounded pairs n f.terms → (p : Point) → New p → Below Has f high p
+made_below New Has pairs n f g high x d e made b p h = kept_below Has f g high x p d e (made (like_bounded pairs false n f g x e b) p h)
+
+pub made_above : (New Has : Point → Type 0) (pairs : Bool) (n : ℕ) (f g : Form) (low x : ℤ) → x ≡ low -ℤ f.constant → g ≡ like f true x → (AreBounded pairs n g.terms → (p : Point) → New p → Kept Has g AtMost p) → AreBounded pairs n f.terms → (p : Point) → New p → Above Has f low p
+made_above New Has pairs n f g low x d e made b p h = kept_above Has f g low x p d e (made (like_bounded pairs true n f g x e b) p h)
