@@ -1,7 +1,7 @@
 // The image of a state along the edge of a condition or of a test.
 ghost use Rattle.std.specs.Prelude.{◌≡◌, ◌<◌, ◌^◌, ◌-ℤ◌, [], unsigned_abs, IfOk};
 ghost use Rattle.wm_domain.specs.Forms.{IsForm};
-ghost use Rattle.wm_domain.specs.States.{count_of, Keeps};
+ghost use Rattle.wm_domain.specs.States.{count_of, Keeps, IsLeast};
 ghost use Rattle.wm_domain.specs.Changes.{Kept};
 ghost use Rattle.wm_carry.specs.Following.{IsWay, Moved};
 ghost use Rattle.wm_tested.specs.Likes.{Between};
@@ -19,6 +19,7 @@ pub fn kept<D: Domain>(way: &Way, at: &D, f: &Form, r: Relation) -> Result<D, No
     requires form { IsForm (count_of (D.shape_of at.now)) f.now }
     ensures shape { IfOk result (λ s. D.shape_of s ≡ way.now.target.now) }
     ensures sound { IfOk result (λ s. Keeps D.holds D.shape_of s (Moved way.now.source.now way.now.target.now (Kept (D.holds at.now) f.now r) [] [])) }
+    ensures least { IfOk result (λ s. IsLeast D.holds D.shape_of s (Moved way.now.source.now way.now.target.now (Kept (D.holds at.now) f.now r) [] [])) }
 {
     let mut state = at.copy(way.alloc)?;
     state.keep(f, r);
@@ -36,6 +37,7 @@ pub fn tested<D: Domain>(way: &Way, at: &D, f: &Form, low: i64, high: i64) -> Re
     requires high { unsigned_abs (f.now.constant -ℤ high) < 2 ^ 50 }
     ensures shape { IfOk result (λ s. D.shape_of s ≡ way.now.target.now) }
     ensures sound { IfOk result (λ s. Keeps D.holds D.shape_of s (Moved way.now.source.now way.now.target.now (Between (D.holds at.now) f.now low high) [] [])) }
+    ensures least { IfOk result (λ s. IsLeast D.holds D.shape_of s (Moved way.now.source.now way.now.target.now (Between (D.holds at.now) f.now low high) [] [])) }
 {
     let mut state = at.copy(way.alloc)?;
     keep_between(way.alloc, &mut state, f, low, high)?;
