@@ -103,6 +103,12 @@ either_of shape Has g q k = elim (sides (k.was.values g.variable +ℤ pos g.step
   | inr h ↦ inr (stuck_of shape Has g q k h)
 ]
 
+pub grown_whole : (shape : Shape) (Has : Point → Type 0) (g : Growth) (q : Point) → InShape shape q → Whole Has g q → Grown shape Has g q
+grown_whole shape Has g q i h = record { was = h.was; point = h.point; others = h.others; value = h.value ∙ sym (least_whole (h.was.values g.variable +ℤ pos g.step) h.fits); inside = i }
+
+pub grown_stuck : (shape : Shape) (Has : Point → Type 0) (g : Growth) (q : Point) → InShape shape q → Stuck Has g q → Grown shape Has g q
+grown_stuck shape Has g q i h = record { was = h.was; point = h.point; others = h.others; value = h.value ∙ sym (stuck_least (h.was.values g.variable +ℤ pos g.step) h.past); inside = i }
+
 -- ---- the state behind one counter, and behind the rest
 
 module _ {S : Type 0} (Holds_of : S → Point → Type 0) (shape_of : S → Shape) (shape : Shape) (Has : Point → Type 0) (it : Growth) (rest gs : List Growth) where

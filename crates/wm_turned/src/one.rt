@@ -1,7 +1,7 @@
 // One counter: the points at which it grows by its whole step, and those at which it sticks.
 ghost use Rattle.std.specs.Prelude.{◌≡◌, ◌<◌, pos, ◌+ℤ◌, ◌-ℤ◌, ◌≤ℤ◌, false, OnOk};
 ghost use Rattle.wm_domain.specs.Points.{Point};
-ghost use Rattle.wm_domain.specs.States.{count_of, Keeps};
+ghost use Rattle.wm_domain.specs.States.{count_of, Keeps, IsLeast};
 ghost use Rattle.wm_turned.specs.Turning.{Whole, Stuck, most};
 
 use std::alloc::Global;
@@ -38,6 +38,10 @@ pub fn grow<D: Domain>(alloc: Global, state: &mut D, it: Growth) -> Result<(), N
     requires inside { it.variable < count_of (D.shape_of state.old) }
     ensures shape { OnOk result (D.shape_of state.new ≡ D.shape_of state.old) }
     ensures sound { OnOk result (Keeps D.holds D.shape_of state.new (Whole (D.holds state.old) it)) }
+    ensures least { OnOk result (IsLeast D.holds D.shape_of state.new (Whole (D.holds state.old) it)) }
+
+    // exactly the points that were wanted
+    ensures made { OnOk result ((p : Point) → D.holds state.new p → Whole (D.holds state.old) it p) }
 {
     let counter = of_variable(alloc, it.variable, false, 0)?;
     let high = room(it.step);
@@ -53,6 +57,10 @@ pub fn stick<D: Domain>(alloc: Global, state: &mut D, it: Growth) -> Result<(), 
     requires inside { it.variable < count_of (D.shape_of state.old) }
     ensures shape { OnOk result (D.shape_of state.new ≡ D.shape_of state.old) }
     ensures sound { OnOk result (Keeps D.holds D.shape_of state.new (Stuck (D.holds state.old) it)) }
+    ensures least { OnOk result (IsLeast D.holds D.shape_of state.new (Stuck (D.holds state.old) it)) }
+
+    // each point cannot but be one that was wanted
+    ensures made { OnOk result ((p : Point) → D.holds state.new p → (Stuck (D.holds state.old) it p → ⊥) → ⊥) }
 {
     let counter = of_variable(alloc, it.variable, false, 0)?;
     let low = brim(it.step);
