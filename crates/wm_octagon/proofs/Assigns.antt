@@ -50,7 +50,7 @@ read-column_minus v s row mirror b k l h q =
     let i : nat_eq l (2 * v + 1) ≡ true = grind arith in
     rw (e, f, g, i) refl
 
-read-other : (v s : ℕ) (row mirror : ℕ → ℤ) (b : ℤ) (k l : ℕ) → k / 2 ≢ v → l / 2 ≢ v → read_of v s row mirror b k l ≡ b
+pub read-other : (v s : ℕ) (row mirror : ℕ → ℤ) (b : ℤ) (k l : ℕ) → k / 2 ≢ v → l / 2 ≢ v → read_of v s row mirror b k l ≡ b
 read-other v s row mirror b k l h q =
     let e : nat_eq k (2 * v) ≡ false = grind arith in
     let f : nat_eq k (2 * v + 1) ≡ false = grind arith in

@@ -16,3 +16,5 @@ pub mod Rows
 pub mod Small
 pub mod Tables
 pub mod Tight
+pub mod Unmoved
+pub mod Besides

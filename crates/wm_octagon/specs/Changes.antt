@@ -1,7 +1,7 @@
 -- Changes of all bounds at once, and the points that they are to leave.
-use Rattle.std.specs.Prelude.{ℕ, ◌≡◌, ◌≢◌, ◌+◌, ◌*◌, ◌/◌, nat_eq, ◌||◌, ℤ, pos, neg_ℤ, ◌+ℤ◌, List, if◌then◌else◌}
+use Rattle.std.specs.Prelude.{ℕ, ◌≡◌, ◌≢◌, ◌+◌, ◌*◌, ◌/◌, nat_eq, ◌||◌, nat_lt, ℤ, pos, neg_ℤ, ◌+ℤ◌, List, if◌then◌else◌}
 use Rattle.wm_numbers.specs.Within.{Within}
-use Rattle.wm_octagon.specs.Layout.{opposite}
+use Rattle.wm_octagon.specs.Layout.{opposite, row_len}
 use Rattle.wm_octagon.specs.Points.{side_value, IsPoint}
 
 -- two different sides that are known apart from each other alone
@@ -40,3 +40,11 @@ pub record Assigned (n : ℕ) (xs : List ℤ) (v s : ℕ) (low high : ℤ) (x : 
   pub more : ℤ
   pub more_in : Within low high more
   pub value : x v ≡ side_value was s +ℤ more
+
+-- the columns of row k that a change of variable v alone may change: those of the variable in later rows, all of its own
+-- rows, and none before; the first of them, and how many there are
+abbrev pub begin_beside : ℕ → ℕ → ℕ
+begin_beside v k = if nat_lt v (k / 2) then 2 * v else 0
+
+abbrev pub columns_beside : ℕ → ℕ → ℕ
+columns_beside v k = if nat_lt v (k / 2) then 2 else (if nat_lt (k / 2) v then 0 else row_len k)

@@ -1,7 +1,7 @@
 -- The arrays by which one more bound is brought up to date in a single pass.
-use Rattle.std.specs.Prelude.{ℕ, ◌*◌, ℤ, pos, ◌+ℤ◌, List, slice_index_or}
+use Rattle.std.specs.Prelude.{ℕ, ◌*◌, ◌<◌, ◌≤◌, ◌≤ℤ◌, ℤ, pos, ◌+ℤ◌, List, slice_index_or}
 use Rattle.std.specs.Int.{int_min}
-use Rattle.wm_octagon.specs.Layout.{opposite, bound}
+use Rattle.wm_octagon.specs.Layout.{opposite, row_len, bound}
 use Rattle.wm_octagon.specs.Closing.{top, through, with_bound}
 use Rattle.wm_octagon.specs.HalfTable.{IsSmall}
 use Rattle.wm_octagon.specs.Medium.{IsMedium, Filled}
@@ -39,3 +39,15 @@ pub record AreSized (from_j from_i to_j to_i tops : List ℤ) : Type 0 where
 -- each number of the list is small
 pub record AllSmall (xs : List ℤ) : Type 0 where
   pub each : (k : ℕ) → IsSmall (at xs k)
+
+-- each row begins to change at one of its columns or at its end
+abbrev pub BeginIn : List ℕ → Type 0
+BeginIn begins = (k : ℕ) → slice_index_or begins k 0 ≤ row_len k
+
+-- nothing changes the bound of l less k: no way from k that ends with the new bound in j or in -i is shorter than what is
+-- known, and the greatest values of -k and l stand before the first that is lowered
+pub record IsUnmoved (m : ℕ → ℕ → ℤ) (j i : ℕ) (to_j to_i : ℤ) (lowered k l : ℕ) : Type 0 where
+  pub into_j : m k j ≤ℤ to_j
+  pub into_i : m k i ≤ℤ to_i
+  pub back_in : opposite k < lowered
+  pub column_in : l < lowered

@@ -1,11 +1,12 @@
 //! A variable that gets the value of a side and a number of an interval.
 
 ghost use Rattle.std.specs.Prelude.{◌≡◌, ℕ, ◌<◌};
-ghost use Rattle.wm_octagon.specs.Changes.{source_of, rise};
+ghost use Rattle.wm_octagon.specs.Changes.{source_of, rise, begin_beside, columns_beside};
 ghost use Rattle.wm_octagon.specs.Assigning.{read_of, risen, IsLow};
 ghost use Rattle.wm_octagon.specs.HalfTable.{IsSmall};
 ghost use Rattle.wm_octagon.specs.Ways.{at, AllSmall};
 
+use crate::changes::{count_beside, first_beside};
 use crate::closing::plus;
 use crate::layout::{Change, MOST_SIDES, opposite};
 
@@ -34,6 +35,10 @@ impl Change for Assigning {
 
     ghost value = { λ s k l b. risen s.variable s.source s.low s.high (at s.source_row) (at s.mirror_row) b k l };
 
+    ghost begin = { λ s k. begin_beside s.variable k };
+
+    ghost columns = { λ s k. columns_beside s.variable k };
+
     #[inline(always)]
     fn changed(&self, k: usize, l: usize, bound: i64) -> i64 {
         if k == l {
@@ -41,6 +46,16 @@ impl Change for Assigning {
         }
         let more = plus(self.rise(opposite(k)), self.rise(l));
         plus(self.read(k, l, bound), more)
+    }
+
+    #[inline(always)]
+    fn first_column(&self, k: usize) -> usize {
+        first_beside(self.variable, k)
+    }
+
+    #[inline(always)]
+    fn column_count(&self, k: usize) -> usize {
+        count_beside(self.variable, k)
     }
 }
 

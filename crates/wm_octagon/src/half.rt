@@ -2,7 +2,7 @@
 
 ghost use Rattle.std.specs.Prelude.{◌≡◌, ◌≢◌, ◌↔◌, ℕ, ◌+◌, ◌*◌, ◌^◌, ◌<◌, ◌≤◌, ℤ, pos, ◌+ℤ◌, ◌≤ℤ◌, unsigned_abs, IsTrue, IfOk, All, length, replicate};
 ghost use Rattle.std.specs.Bool.{MatchBool, OnTrue};
-ghost use Rattle.wm_octagon.specs.Layout.{opposite, row_len, entry, bound, table};
+ghost use Rattle.wm_octagon.specs.Layout.{opposite, row_len, entry, bound, table, IsBeside};
 ghost use Rattle.wm_octagon.specs.Closing.{half_of, top, list_with};
 ghost use Rattle.wm_octagon.specs.Points.{IsPoint, IsTight, LeastOctagon, WithBound};
 ghost use Rattle.wm_octagon.specs.HalfTable.{IsSmall, IsWhole};
@@ -175,11 +175,12 @@ impl Half {
         tops
     }
 
-    /// Changes each bound.
+    /// Changes the bounds.
     #[inline(always)]
     pub(crate) fn change<C: Change>(&mut self, change: &C)
         requires known { 2 * self.old.variables ≤ C.sides change.now }
         requires sized { (k l : ℕ) → k < 2 * self.old.variables → l < row_len k → IsSmall (C.value change.now k l (entry self.old.bounds k l)) }
+        requires beside { IsBeside (2 * self.old.variables) (C.value change.now) (C.begin change.now) (C.columns change.now) self.old.bounds }
         ensures { self.new ≡ record self.old { bounds = table (2 * self.old.variables) (λ k l. C.value change.now k l (entry self.old.bounds k l)) } }
     {
         change_all(change, self.variables, self.bounds.as_mut_slice());

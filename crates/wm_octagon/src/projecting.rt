@@ -2,7 +2,7 @@
 
 ghost use Rattle.std.specs.Prelude.{◌≡◌, ℕ, ◌*◌, ◌/◌, ◌<◌, ◌≤◌, length, All, IfSome, Some, true};
 ghost use Rattle.std.proofs.Props.{props};
-ghost use Rattle.wm_octagon.specs.Layout.{bound};
+ghost use Rattle.wm_octagon.specs.Layout.{bound, row_len};
 ghost use Rattle.wm_octagon.specs.Changes.{apart};
 ghost use Rattle.wm_octagon.specs.HalfTable.{IsSmall};
 ghost use Rattle.wm_octagon.specs.Medium.{Filled};
@@ -12,7 +12,7 @@ ghost use Rattle.wm_octagon.specs.Ways.{at, AllSmall};
 
 use crate::closing::plus;
 use crate::half::Half;
-use crate::layout::{Change, MOST_SIDES, opposite};
+use crate::layout::{Change, MOST_SIDES, opposite, row_len};
 use wm_interval::Interval;
 
 /// Each variable is the picked one of an older octagon; where none is picked, the greatest values of its sides are all that
@@ -33,6 +33,10 @@ impl Change for Projecting<'_> {
 
     ghost value = { λ s k l b. projected s.keep.now (at s.tops) (bound s.half.now.bounds) k l };
 
+    ghost begin = { λ _ _. 0 };
+
+    ghost columns = { λ _ k. row_len k };
+
     #[inline(always)]
     fn changed(&self, k: usize, l: usize, _bound: i64) -> i64 {
         match self.source(k) {
@@ -42,6 +46,16 @@ impl Change for Projecting<'_> {
                 Some(j) => self.half.bound(i, j),
             },
         }
+    }
+
+    #[inline(always)]
+    fn first_column(&self, _k: usize) -> usize {
+        0
+    }
+
+    #[inline(always)]
+    fn column_count(&self, k: usize) -> usize {
+        row_len(k)
     }
 }
 

@@ -1,10 +1,16 @@
-use Rattle.std.proofs.Common.{◌≡◌, ◌∙◌, ◌+ℤ◌, ap, w64}
+use Rattle.std.proofs.Common.{◌≡◌, ◌∙◌, ◌+ℤ◌, sym, subst, ap, w64}
 use Rattle.std.proofs.lemmas.Int.{to_z-of_z}
 use Rattle.std.specs.Int.{int_min}
 use Rattle.wm_octagon.specs.Ways.{at, least_way}
-use Rattle.wm_octagon.proofs.Small.{fits_small, fits_medium}
+use Rattle.wm_octagon.proofs.Small.{fits_small, fits_medium, small_read, medium_small}
 use mir.Val.{SFits}
 use Rattle.wm_octagon.proofs.closing.ClosingChange.changed.Goals as goal
+use Rattle.wm_octagon.specs.Medium.{IsMedium}
+
+pub sum-by_i-requires-clause-b : goal.sum-by_i-requires-clause-b
+sum-by_i-requires-clause-b c =
+    let s = c.args.self.now.sized.i_row c.args.l in
+    subst IsMedium (sym (small_read _ s)) (medium_small _ s)
 
 pub returns : goal.returns
 returns c =

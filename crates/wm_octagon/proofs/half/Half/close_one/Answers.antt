@@ -1,4 +1,4 @@
-use Rattle.std.proofs.Common.{◌≡◌, ◌∙◌, ℕ, ◌*◌, ◌<◌, ℤ, pos, ◌+ℤ◌, ◌<ℤ◌, ◌≤ℤ◌, arith, subst, sym, ap, List, w64, true, false}
+use Rattle.std.proofs.Common.{◌≡◌, ◌∙◌, ℕ, ◌*◌, ◌<◌, ℤ, pos, ◌+ℤ◌, ◌<ℤ◌, ◌≤ℤ◌, subst, sym, ap, List, w64, true, false}
 use Rattle.std.proofs.lemmas.Int.{to_z-of_z}
 use Rattle.wm_octagon.specs.Layout.{bound, table}
 use Rattle.wm_octagon.specs.HalfTable.{HalfTable, IsWhole}

@@ -1,4 +1,4 @@
-use Rattle.std.proofs.Common.{◌∙◌, arith, ap, subst, sym, length, pos}
+use Rattle.std.proofs.Common.{◌∙◌, arith, ap, subst, length, pos}
 use Rattle.std.proofs.lemmas.List.{length-set, length-replicate}
 use Rattle.wm_octagon.specs.HalfTable.{IsSmall}
 use Rattle.wm_octagon.specs.Layout.{bound}

@@ -4,7 +4,11 @@ use Rattle.wm_octagon.specs.Points.{IsPoint, IsTight, LeastOctagon}
 use Rattle.wm_octagon.specs.Ranges.{InRanges, box_table}
 use Rattle.wm_octagon.proofs.Least.{tight_of_least}
 use Rattle.wm_octagon.proofs.Ranges.{box-small, box-half, box-least, box-points}
+use Rattle.wm_octagon.proofs.Besides.{beside_all}
 use Rattle.wm_octagon.proofs.half.Half.new.Goals as goal
+
+pub change-requires-clause-beside : goal.change-requires-clause-beside
+change-requires-clause-beside c = beside_all _ _ _
 
 pub change-requires-clause-sized : goal.change-requires-clause-sized
 change-requires-clause-sized c = box-small c.in_ok-half.half.variables c.args.ranges.now c.range_tops.result (c.in_ok-half.ensures {u = tt}) c.requires.narrow c.range_tops.ensures.value

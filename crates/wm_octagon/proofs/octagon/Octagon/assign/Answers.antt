@@ -7,7 +7,11 @@ use Rattle.wm_octagon.specs.Ways.{at}
 use Rattle.wm_octagon.specs.View.{OctagonView, LeastOf, IsKept}
 use Rattle.wm_octagon.proofs.Octagons.{opened}
 use Rattle.wm_octagon.proofs.Assigns.{two_rows, fits_of, low_read, assign-table, assign-sized, assign-kept, assigned-least}
+use Rattle.wm_octagon.proofs.Besides.{assign-beside}
 use Rattle.wm_octagon.proofs.octagon.Octagon.assign.Goals as goal
+
+pub change-requires-clause-beside : goal.change-requires-clause-beside
+change-requires-clause-beside c = assign-beside c.self.inside.half.variables c.args.v c.args.source (to_z w64 (of_z w64 c.args.d.low)) (to_z w64 (of_z w64 c.args.d.high)) (at c.row.result) (at c.row-2.result) c.self.inside.half.bounds (c.self.invariant.tight c.if-self.false)
 
 pub change-requires-clause-sized : goal.change-requires-clause-sized
 change-requires-clause-sized c = λ k l hk here.

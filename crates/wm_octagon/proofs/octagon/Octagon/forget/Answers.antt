@@ -8,7 +8,11 @@ use Rattle.wm_octagon.specs.Sides.{FreedOf}
 use Rattle.wm_octagon.proofs.Moves.{FreeTops}
 use Rattle.wm_octagon.proofs.Octagons.{opened}
 use Rattle.wm_octagon.proofs.Forgets.{forget-table, free_tops, forget-sized, forget-kept, freed-least}
+use Rattle.wm_octagon.proofs.Besides.{forget-beside}
 use Rattle.wm_octagon.proofs.octagon.Octagon.forget.Goals as goal
+
+pub change-requires-clause-beside : goal.change-requires-clause-beside
+change-requires-clause-beside c = forget-beside c.self.inside.half.variables c.args.v (at c.freed_tops.result) c.self.inside.half.bounds
 
 pub change-requires-clause-sized : goal.change-requires-clause-sized
 change-requires-clause-sized c =

@@ -8,7 +8,11 @@ use Rattle.wm_octagon.specs.View.{OctagonView, LeastOf, IsKept}
 use Rattle.wm_octagon.proofs.Octagons.{opened}
 use Rattle.wm_octagon.proofs.OctagonJoins.{no_bounds}
 use Rattle.wm_octagon.proofs.Projects.{AreNamed, TwoTops, named_of, project-value, project-small, project-half, project-kept, project-least, own-least, nothing_made}
+use Rattle.wm_octagon.proofs.Besides.{beside_all}
 use Rattle.wm_octagon.proofs.octagon.Octagon.project.Goals as goal
+
+pub change-requires-clause-beside : goal.change-requires-clause-beside
+change-requires-clause-beside c = beside_all _ _ _
 
 pub change-requires-clause-sized : goal.change-requires-clause-sized
 change-requires-clause-sized c = λ k l hk here.
