@@ -1,7 +1,7 @@
 // A turn: the cases of which counters stick.
 ghost use Rattle.std.specs.Prelude.{◌≡◌, ◌<◌, All, IfOk};
 ghost use Rattle.wm_domain.specs.Points.{Point};
-ghost use Rattle.wm_domain.specs.States.{count_of, InShape};
+ghost use Rattle.wm_domain.specs.States.{count_of, InShape, IsLeast};
 ghost use Rattle.wm_turned.specs.Turning.{AllGrown};
 
 use std::alloc::Global;
@@ -16,6 +16,7 @@ pub fn turned_from<D: Domain>(alloc: Global, state: &D, growths: &[Growth]) -> R
     requires inside { All (λ it. it.variable < count_of (D.shape_of state.now)) growths.now }
     ensures shape { IfOk result (λ s. D.shape_of s ≡ D.shape_of state.now) }
     ensures sound { IfOk result (λ s. (p : Point) → InShape (D.shape_of state.now) p → AllGrown (D.shape_of state.now) (D.holds state.now) growths.now p → D.holds s p) }
+    ensures least { IfOk result (λ s. IsLeast D.holds D.shape_of s (AllGrown (D.shape_of state.now) (D.holds state.now) growths.now)) }
 {
     match growths.split_first() {
         None => {
