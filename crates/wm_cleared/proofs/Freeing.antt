@@ -41,7 +41,7 @@ of_sum t u x a b c e f h =
     (subst (λ (y : ℤ). (signed t.negative a +ℤ signed u.negative y) ≤ℤ c) (sym f) h)
 
 -- bounds tell points with the same numbers and cells not apart
-meets_alike : (b : Bound) (p q : Point) → ((u : ℕ) → q.values u ≡ p.values u) → ((a : ℕ) → q.cells a ≡ p.cells a) → Meets b p → Meets b q
+pub meets_alike : (b : Bound) (p q : Point) → ((u : ℕ) → q.values u ≡ p.values u) → ((a : ℕ) → q.cells a ≡ p.cells a) → Meets b p → Meets b q
 meets_alike NoPoint p q e f h = h
 meets_alike (TermBelow t c) p q e f h = subst (λ (y : ℤ). signed t.negative y ≤ℤ c) (sym (e t.variable)) h
 meets_alike (SumBelow t u c) p q e f h = of_sum t u q.values (p.values t.variable) (p.values u.variable) c (e t.variable) (e u.variable) h
@@ -62,7 +62,7 @@ module _ (S : Type 0) (pairs : Bool) (holds : S → Point → Type 0) (shape_of 
     there m u n = moved-there m.values v z u n
 
     -- what holds after each wanted point has got the number holds after x has got it
-    pull : (b : Bound) → IsBound pairs (shape_of state) b → ((m : Point) → Wanted (shape_of state) F m → Meets b (with_value m v z)) → Meets b (with_value x v z)
+    pub pull : (b : Bound) → IsBound pairs (shape_of state) b → ((m : Point) → Wanted (shape_of state) F m → Meets b (with_value m v z)) → Meets b (with_value x v z)
     pull NoPoint ok all = met_by NoPoint tt all
     pull (TermBelow t c) ok all = elim (cases_eq t.variable v) [
       | inl e ↦ subst (λ (y : ℤ). signed t.negative y ≤ℤ c) (sym (here x t.variable e)) (always (signed t.negative z) c (λ m w. subst (λ (y : ℤ). signed t.negative y ≤ℤ c) (here m t.variable e) (all m w)))
