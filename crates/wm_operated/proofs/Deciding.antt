@@ -14,11 +14,11 @@ use Rattle.wm_ops.specs.Operators.{arity_of}
 use Rattle.wm_hull.specs.Boxes.{used_box, zero_box}
 use Rattle.wm_hull.specs.Failures.{Somewhere, Nowhere}
 use Rattle.wm_hull.specs.Ranges.{IsHull, Result}
-use Rattle.wm_ops.specs.Outcomes.{fails_of}
+use Rattle.wm_ops.specs.Outcomes.{fails_of, flags_of}
 use Rattle.wm_domain.specs.declared.form.Form.{Form}
 use Rattle.wm_domain.specs.Points.{Point}
 use Rattle.wm_domain.specs.States.{IsSized}
-use Rattle.wm_step.specs.Operating.{AreBoxes, HasArguments, InArgument, IsOperated, IsResult, Ranges, FailsSomewhere, FailsNowhere, Change, Second, Product, IsTurned, IsAdded, IsJoined, IsChange, IsChangeBy, change_of, box_at, form_at}
+use Rattle.wm_step.specs.Operating.{AreBoxes, HasArguments, InArgument, IsOperated, IsResult, Ranges, FailsSomewhere, FailsNowhere, FlagsSomewhere, Change, Second, Product, IsTurned, IsAdded, IsJoined, IsChange, IsChangeBy, change_of, box_at, form_at}
 use Rattle.wm_operated.specs.Clamping.{IsClamped}
 use Rattle.wm_operated.specs.Differences.{DiffersFrom, Differs}
 
@@ -174,6 +174,10 @@ operated_to Has op args boxes range was z are ranges m = (m.value boxes are (Som
 
 pub not_operated : (Has : Point → Type 0) (op : Op) (args : List Form) (boxes : List Interval) (was : Point) (z : ℤ) → AreBoxes Has op args boxes → Ranges op boxes None → IsOperated Has op args was z → ⊥
 not_operated Has op args boxes was z are ranges m = m.value boxes are None ranges
+
+-- an operator that flags somewhere in the boxes of the arguments does so in each such list of boxes
+pub flags_in_all : (Has : Point → Type 0) (op : Op) (args : List Form) (boxes : List Interval) → AreBoxes Has op args boxes → FlagsSomewhere op boxes → (others : List Interval) → AreBoxes Has op args others → FlagsSomewhere op others
+flags_in_all Has op args boxes are h others are_others = used_moved op (Somewhere (flags_of op)) boxes others (same_boxes Has op args boxes others are are_others) h
 
 -- ---- parts of ranges
 

@@ -2,3 +2,4 @@ pub mod Adding
 pub mod Flagging
 pub mod Applying
 pub mod Deciding
+pub mod Raising

@@ -1,2 +1,3 @@
 pub mod Clamping
 pub mod Differences
+pub mod Raising

@@ -1,7 +1,7 @@
 // The image of a state where an operator is applied.
 ghost use Rattle.std.specs.Prelude.{◌≡◌, ◌≢◌, ◌<◌, Some, All, IfOk};
 ghost use Rattle.wm_domain.specs.Forms.{IsForm};
-ghost use Rattle.wm_domain.specs.States.{count_of, Keeps};
+ghost use Rattle.wm_domain.specs.States.{count_of, Keeps, IsLeast};
 ghost use Rattle.wm_carry.specs.Following.{IsWay, origin};
 ghost use Rattle.wm_assign.specs.Giving.{AreSeen};
 ghost use Rattle.wm_step.specs.Operating.{OperateImage, form_at};
@@ -37,6 +37,7 @@ pub fn operated<D: Domain>(
     requires apart { target ≢ overflow }
     ensures shape { IfOk result (λ s. D.shape_of s ≡ way.now.target.now) }
     ensures sound { IfOk result (λ s. Keeps D.holds D.shape_of s (OperateImage way.now.source.now way.now.target.now (D.holds at.now) op args.now target overflow)) }
+    ensures least { IfOk result (λ s. IsLeast D.holds D.shape_of s (OperateImage way.now.source.now way.now.target.now (D.holds at.now) op args.now target overflow)) }
 {
     match boxes(at, op, args) {
         None => {
@@ -46,7 +47,7 @@ pub fn operated<D: Domain>(
         Some(all) => {
             let value = value_of(way.alloc, at, op, args, &all)?;
             let mut state = set(way, at, target, value)?;
-            flagged(&mut state, op, &all, overflow);
+            flagged(way.alloc, &mut state, op, &all, overflow)?;
             Ok(state)
         }
     }

@@ -1,18 +1,15 @@
-use Rattle.std.proofs.Common.{sym, subst}
-use Rattle.wm_domain.specs.declared.shape.Shape.{Shape}
-use Rattle.wm_domain.specs.States.{InShape}
-use Rattle.wm_operated.proofs.Flagging.{raised_sized, raised_point}
+use Rattle.std.proofs.Common.{◌∙◌}
+use Rattle.wm_operated.proofs.Raising.{keeps_raised, least_raised}
 use Rattle.wm_operated.proofs.flags.raise.Goals as goal
 
-pub assign_range-requires-clause-range : goal.assign_range-requires-clause-range
-assign_range-requires-clause-range g c =
-    raised_sized (g.D.Domain.holds c.args.state.now) (g.D.Domain.shape_of c.args.state.now) c.args.overflow c.in-Some.r c.new.result c.join.result c.requires.shaped (λ q h. g.met.D.Domain.inside c.args.state.now q h) c.requires.inside
-    c.in-Some.ensures.exact c.new.ensures.low c.new.ensures.high c.join.ensures.low c.join.ensures.high
+pub returns-clause-sound : goal.returns-clause-sound
+returns-clause-sound g c =
+    keeps_raised g.row.D.Denot g.D.Domain.PAIRS g.D.Domain.holds g.D.Domain.shape_of (record { inside = g.met.D.Domain.inside; closed = g.met.D.Domain.closed; cuts = g.met.D.Domain.cuts }) (λ s p q a h. g.met.D.Domain.alike s p q a h)
+    c.args.state.now c.in_ok-risen.risen c.assign_range.new.self c.join_with.new.self c.args.overflow c.new-one.result c.new-one.ensures.low c.new-one.ensures.high
+    (c.assign_range.ensures.shape ∙ c.in_ok-risen.ensures.shape) c.join_with.ensures.shape c.in_ok-risen.ensures.same c.assign_range.ensures.sound c.join_with.ensures.sound
 
-pub returns-in-None-clause-kept : goal.returns-in-None-clause-kept
-returns-in-None-clause-kept g c = λ was p i h s k. absurd (c.in-None.ensures.exact was h)
-
-pub returns-in-Some-clause-kept : goal.returns-in-Some-clause-kept
-returns-in-Some-clause-kept g c = λ was p i h s k.
-    c.assign_range.ensures.sound.kept p (subst (λ (x : Shape). InShape x p) (sym c.assign_range.ensures.shape) i)
-    (raised_point (g.D.Domain.holds c.args.state.now) c.args.overflow c.in-Some.r c.new.result c.join.result was p c.in-Some.ensures.exact c.new.ensures.low c.new.ensures.high c.join.ensures.least h s k)
+pub returns-clause-least : goal.returns-clause-least
+returns-clause-least g c =
+    least_raised g.row.D.Denot g.D.Domain.PAIRS g.D.Domain.holds g.D.Domain.shape_of (record { inside = g.met.D.Domain.inside; closed = g.met.D.Domain.closed; cuts = g.met.D.Domain.cuts }) (λ s p q a h. g.met.D.Domain.alike s p q a h)
+    c.args.state.now c.in_ok-risen.risen c.assign_range.new.self c.join_with.new.self c.args.overflow c.new-one.result c.new-one.ensures.low c.new-one.ensures.high
+    (c.assign_range.ensures.shape ∙ c.in_ok-risen.ensures.shape) c.join_with.ensures.shape c.in_ok-risen.ensures.same c.assign_range.ensures.sound c.assign_range.ensures.least c.join_with.ensures.least
