@@ -1,4 +1,5 @@
 pub mod Moving
 pub mod Nears
+pub mod Pairs
 pub mod Placing
 pub mod Sums

@@ -8,6 +8,7 @@ ghost use Rattle.wm_domain.specs.Points.{Point, Alike, range_at};
 ghost use Rattle.wm_domain.specs.Forms.{IsForm, IsSimple, AreBounded};
 ghost use Rattle.wm_domain.specs.States.{count_of, array_count, IsShape, InShape, IsSized, Keeps, IsLeast, IsBare, IsTold};
 ghost use Rattle.wm_domain.specs.Bounds.{Bound, IsBound, IsCutBy, MeetsAll};
+ghost use Rattle.wm_domain.specs.Places.{ArePaired, Followed};
 ghost use Rattle.wm_domain.specs.Changes.{IsUnset, Projected, ArePicks, Kept, Freed, Assigned, Near, ArraySet, Written, InEither, IsValueOf, IsFormValue, IsCellOf};
 
 use crate::{Form, Relation, Shape};
@@ -19,7 +20,7 @@ use wm_ops::NoMemory;
 /// A state of a shape. A set of points may have no state of its own; then the least state that holds them stands for them.
 /// Variables and arrays that are named lie in the shape; a group has at most 32 variables; full ranges have 32 bits;
 /// numbers are below 2^50 in size; and two states of one call have one shape. A point at which a variable gets a number
-/// outside its full range is dropped. Only `full`, `copy` and `project` take memory.
+/// outside its full range is dropped. Only `full`, `copy`, `project` and `follow` take memory.
 pub trait Domain: Sized + Drop {
     ghost use Rattle.wm_domain.specs.declared.shape.Shape.{Shape};
 
@@ -64,6 +65,15 @@ pub trait Domain: Sized + Drop {
         ensures shape { IfOk result (λ s. shape_of s ≡ shape.now) }
         ensures sound { IfOk result (λ s. Keeps holds shape_of s (Projected (holds self.now) picks.now arrays.now)) }
         ensures least { IfOk result (λ s. IsLeast holds shape_of s (Projected (holds self.now) picks.now arrays.now)) };
+
+    /// The state of another shape: group, singles and arrays are paired each by place with those of this one, and what is
+    /// paired has one full range. What only this one has is dropped; what only the other has is as in `full`.
+    fn follow(&self, alloc: Global, shape: &Shape) -> Result<Self, NoMemory>
+        requires shape { IsShape shape.now }
+        requires paired { ArePaired (shape_of self.now) shape.now }
+        ensures shape { IfOk result (λ s. shape_of s ≡ shape.now) }
+        ensures sound { IfOk result (λ s. Keeps holds shape_of s (Followed (shape_of self.now) shape.now (holds self.now))) }
+        ensures least { IfOk result (λ s. IsLeast holds shape_of s (Followed (shape_of self.now) shape.now (holds self.now))) };
 
     /// Takes every point away.
     fn clear(&mut self)
