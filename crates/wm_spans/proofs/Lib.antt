@@ -6,6 +6,8 @@ pub mod Forming
 pub mod Joined
 pub mod Listed
 pub mod Loops
+pub mod Over
+pub mod Paired
 pub mod Picked
 pub mod Raised
 pub mod Raising

@@ -1,2 +1,3 @@
 pub mod Spanned
 pub mod Exact
+pub mod Over

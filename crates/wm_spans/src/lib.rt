@@ -3,6 +3,7 @@
 #![tactic(auto)]
 
 mod drawing;
+mod following;
 mod forms;
 mod joining;
 mod spans;

@@ -36,7 +36,7 @@ impl Model for Spans {
 }
 
 impl Spans {
-    ghost use Rattle.wm_spans.specs.Spanned.{Kept, In};
+    ghost use Rattle.wm_spans.specs.Spanned.{Kept, In, IsKept};
     ghost use Rattle.wm_spans.specs.Exact.{Exactly, Bounded, IsNearCell, IsRaised, IsBelow};
 
     /// Whether there is no point.
@@ -86,6 +86,21 @@ impl Spans {
         ensures kept { Kept self.now }
     {
         range_of(self.full.as_slice(), v)
+    }
+
+    // the range of each variable
+    pub(crate) fn ranges(&self) -> &[Interval]
+        ensures value { result.now ≡ self.now.ranges }
+        ensures kept { Kept self.now }
+    {
+        self.ranges.as_slice()
+    }
+
+    // the summary of each array
+    pub(crate) fn cells(&self) -> &[Summary]
+        ensures value { result.now ≡ self.now.cells }
+    {
+        self.cells.as_slice()
     }
 
     // gives variable `v` a range within its full one
@@ -272,6 +287,33 @@ impl Spans {
             ranges,
             cells,
             empty: false,
+        })
+    }
+
+    // these ranges and summaries, which lie in the full ranges through the first and then the second list and in those of the
+    // arrays
+    pub(crate) fn of_lists(
+        alloc: Global,
+        first: &[Interval],
+        second: &[Interval],
+        arrays: &[Interval],
+        ranges: Vec<Interval>,
+        cells: Vec<Summary>,
+        empty: bool,
+    ) -> Result<Spans, NoMemory>
+        requires kept { IsKept (first.now ++ second.now) arrays.now ranges.items cells.items }
+        ensures value { IfOk result (λ s. s ≡ record { full = first.now ++ second.now; array_full = arrays.now; ranges = ranges.items; cells = cells.items; empty = empty }) }
+    {
+        let mut full = Vec::with_capacity(alloc, ranges.len())?;
+        full.extend_from_slice(first)?;
+        full.extend_from_slice(second)?;
+        let array_full = Vec::from_slice(alloc, arrays)?;
+        Ok(Spans {
+            full,
+            array_full,
+            ranges,
+            cells,
+            empty,
         })
     }
 
