@@ -3,3 +3,4 @@ pub mod Equal
 pub mod Staying
 pub mod Picked
 pub mod Laying
+pub mod Nexts

@@ -2,8 +2,10 @@
 #![tactic(auto)]
 
 mod drawn;
+mod following;
 mod lying;
 mod projecting;
 mod whole;
 
+pub use following::followed;
 pub use projecting::projected;

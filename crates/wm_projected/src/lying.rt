@@ -1,26 +1,14 @@
 // Whether the points of a state fit other full ranges as they are.
 
-ghost use Rattle.std.specs.Prelude.{◌≡◌, ℕ, ◌<◌, ◌≤◌, ◌+◌, true, length, slice_index_or, Some, None, IfOk, IfSome, All};
+ghost use Rattle.std.specs.Prelude.{◌≡◌, ℕ, ◌<◌, ◌≤◌, ◌+◌, length, slice_index_or, Some, None, IfOk, IfSome, All};
 ghost use Rattle.wm_domain.specs.Points.{Point, IsNarrow, range_at};
 ghost use Rattle.wm_tied.specs.Pointed.{In, HasPoint};
-ghost use Rattle.wm_tied.specs.Projecting.{IsPickedIn, ArePicked, IsDrawnRange};
+ghost use Rattle.wm_tied.specs.Projecting.{ArePicked, IsDrawnRange};
 
 use std::alloc::Global;
 use wm_interval::Interval;
 use wm_ops::NoMemory;
 use wm_tied::Tied;
-
-// whether the variable that is picked, if one is, lies in `r` at each point
-fn lies(tied: &Tied, r: Interval, pick: Option<u32>) -> bool
-    requires some { HasPoint tied.now }
-    requires named { (v : ℕ) → pick ≡ Some v → v < length tied.now.group + length tied.now.spans.full }
-    ensures { result ≡ true → (p : Point) → In tied.now p → IsPickedIn (In tied.now) r pick p }
-{
-    match pick {
-        None => true,
-        Some(v) => tied.range(v as usize).within(r),
-    }
-}
 
 /// The least and the greatest number of each variable that is picked at a place from the first one; the full range where none
 /// is. None where a picked variable may lie outside the full range for its place. `NoMemory`: memory ran out.
@@ -42,10 +30,11 @@ pub(crate) fn fitting_ranges(
 {
     let mut ranges = Vec::from_slice(alloc, full)?;
     for k in 0..full.len() {
-        if !lies(tied, full[k], picks[first + k]) {
+        let range = tied.drawn_range(full[k], picks[first + k]);
+        if !range.within(full[k]) {
             return Ok(None);
         }
-        ranges[k] = tied.drawn_range(full[k], picks[first + k]);
+        ranges[k] = range;
     }
     Ok(Some(ranges))
 }

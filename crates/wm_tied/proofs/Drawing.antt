@@ -128,7 +128,7 @@ module _ (c : TiedView) (h : HasPoint c) (group singles arrays : List Interval) 
 
   module _ (keep : List (Option ℕ)) (ranges single_ranges : List Interval) (o : OctagonView) (s1 s2 : Spanned) (keep_long : length keep ≡ length group)
       (keep_each : (k : ℕ) → k < length group → slice_index_or keep k None ≡ kept_pick (length c.group) (slice_index_or picks k None))
-      (ranges_each : (k : ℕ) → k < length group → IsDrawnRange (In c) (slice_index_or picks (0 + k) None) (range_at group k) (range_at ranges k))
+      (ranges_each : (k : ℕ) → k < length group → slice_index_or keep k None ≡ None → IsDrawnRange (In c) (slice_index_or picks (0 + k) None) (range_at group k) (range_at ranges k))
       (single_long : length single_ranges ≡ length singles)
       (single_each : (k : ℕ) → k < length singles → IsDrawnRange (In c) (slice_index_or picks (length group + k) None) (range_at singles k) (range_at single_ranges k))
       (counted : o.variables ≡ length keep) (least : IsLeast o (ProjectedOf c.ties keep ranges)) (f1 : s1.full ≡ singles) (a1 : s1.array_full ≡ arrays) (f2 : s2.full ≡ s1.full) (a2 : s2.array_full ≡ s1.array_full)
@@ -143,8 +143,8 @@ module _ (c : TiedView) (h : HasPoint c) (group singles arrays : List Interval) 
     in_keep : (k : ℕ) → k < length group → k < length keep
     in_keep k hk = subst (λ (n : ℕ). k < n) (sym keep_long) hk
 
-    range_drawn : (k : ℕ) → k < length group → IsDrawnRange (In c) (pick k) (range_at group k) (range_at ranges k)
-    range_drawn k hk = subst (λ (n : ℕ). IsDrawnRange (In c) (pick n) (range_at group k) (range_at ranges k)) (zero_add k) (ranges_each k hk)
+    range_drawn : (k : ℕ) → k < length group → slice_index_or keep k None ≡ None → IsDrawnRange (In c) (pick k) (range_at group k) (range_at ranges k)
+    range_drawn k hk none = subst (λ (n : ℕ). IsDrawnRange (In c) (pick n) (range_at group k) (range_at ranges k)) (zero_add k) (ranges_each k hk none)
 
     single_drawn : (k : ℕ) → length group ≤ k → k < length picks → IsDrawnRange (In c) (pick k) (range_at singles (k - length group)) (range_at single_ranges (k - length group))
     single_drawn k g hk = subst (λ (n : ℕ). IsDrawnRange (In c) (pick n) (range_at singles (k - length group)) (range_at single_ranges (k - length group))) (past_number (length group) k g)
@@ -174,10 +174,10 @@ module _ (c : TiedView) (h : HasPoint c) (group singles arrays : List Interval) 
     base_at z v hv = mix-group (length c.group) z (shifted (length c.group) h.point).values v hv
 
     tie_full : (x : ℕ → ℤ) (i : ProjectedOf c.ties keep ranges x) (k : ℕ) (q : Option ℕ) → k < length group → pick k ≡ q → Holds (range_at group k) (x k)
-    tie_full x i k None hk e = subst (λ (r : Interval). Holds r (x k)) (drawn_none (In c) (pick k) (range_at group k) (range_at ranges k) e (range_drawn k hk)) (tie_range x i k hk (keep_none k hk e))
+    tie_full x i k None hk e = subst (λ (r : Interval). Holds r (x k)) (drawn_none (In c) (pick k) (range_at group k) (range_at ranges k) e (range_drawn k hk (keep_none k hk e))) (tie_range x i k hk (keep_none k hk e))
     tie_full x i k (Some v) hk e = elim (cases_lt v (length c.group)) [
       | inl l ↦ subst (Holds (range_at group k)) (base_at i.was v l ∙ sym (tie_own x i k v hk e l)) (group_lies (base_of i.was) (base_in i.was i.point) k v hk e)
-      | inr g ↦ hull_lies (In c) v (range_at ranges k) (range_at group k) (x k) (drawn_some (In c) (pick k) (range_at group k) (range_at ranges k) v e (range_drawn k hk)) (λ p j. group_lies p j k v hk e) (tie_range x i k hk (keep_other k v hk e g))
+      | inr g ↦ hull_lies (In c) v (range_at ranges k) (range_at group k) (x k) (drawn_some (In c) (pick k) (range_at group k) (range_at ranges k) v e (range_drawn k hk (keep_other k v hk e g))) (λ p j. group_lies p j k v hk e) (tie_range x i k hk (keep_other k v hk e g))
     ]
 
     pub drawn_tied : IsTied group o
@@ -226,7 +226,7 @@ module _ (c : TiedView) (h : HasPoint c) (group singles arrays : List Interval) 
     drawn_projected x i p ip = gathered_point c picks array_picks hp ha (drawn_point x i.was p) (base_of i.was) (base_in i.was i.point)
         (λ k v hk e hv. elim (cases_lt k (length group)) [
           | inl g ↦ subst (Holds (range_at c.spans.ranges (v - length c.group))) (sym (at_group x i.was p k g))
-              (single_range v (range_at ranges k) (x k) hv (hp.named k v e) (drawn_some (In c) (pick k) (range_at group k) (range_at ranges k) v e (range_drawn k g)) (tie_range x i k g (keep_other k v g e hv)))
+              (single_range v (range_at ranges k) (x k) hv (hp.named k v e) (drawn_some (In c) (pick k) (range_at group k) (range_at ranges k) v e (range_drawn k g (keep_other k v g e hv))) (tie_range x i k g (keep_other k v g e hv)))
           | inr g ↦ subst (Holds (range_at c.spans.ranges (v - length c.group))) (sym (at_past x i.was p k g ∙ alone-other (length c.group) (pick k) i.was (p.values k) v e hv))
               (single_range v (range_at single_ranges (k - length group)) (p.values k) hv (hp.named k v e) (drawn_some (In c) (pick k) (range_at singles (k - length group)) (range_at single_ranges (k - length group)) v e (single_drawn k g hk)) (single_in p ip k g hk))
         ])
@@ -313,13 +313,13 @@ module _ (c : TiedView) (h : HasPoint c) (group singles arrays : List Interval) 
 
     kept_number : (p : Point) → InFull t p → (d : Projected (In c) picks array_picks p) → (k : ℕ) → k < length group → (q : Option ℕ) → pick k ≡ q → drawing.IsPicked (slice_index_or keep k None) (low_of ranges k) (high_of ranges k) d.was.values (p.values k)
     kept_number p f d k hk None e = subst (λ (x : Option ℕ). drawing.IsPicked x (low_of ranges k) (high_of ranges k) d.was.values (p.values k)) (sym (keep_none k hk e))
-        (of_range ranges k (p.values k) (subst (λ (r : Interval). Holds r (p.values k)) (sym (drawn_none (In c) (pick k) (range_at group k) (range_at ranges k) e (range_drawn k hk))) (full_group t p f k hk)))
+        (of_range ranges k (p.values k) (subst (λ (r : Interval). Holds r (p.values k)) (sym (drawn_none (In c) (pick k) (range_at group k) (range_at ranges k) e (range_drawn k hk (keep_none k hk e)))) (full_group t p f k hk)))
     kept_number p f d k hk (Some v) e =
         let same = picked_number d.was (p.values k) (pick k) v e (d.numbers k (in_part (length group) (length singles) k (length picks) long hk)) in
         elim (cases_lt v (length c.group)) [
           | inl l ↦ subst (λ (x : Option ℕ). drawing.IsPicked x (low_of ranges k) (high_of ranges k) d.was.values (p.values k)) (sym (keep_each k hk ∙ ap (kept_pick (length c.group)) e ∙ kept_in (length c.group) v l)) same
           | inr g ↦ subst (λ (x : Option ℕ). drawing.IsPicked x (low_of ranges k) (high_of ranges k) d.was.values (p.values k)) (sym (keep_other k v hk e g))
-              (of_range ranges k (p.values k) (subst (Holds (range_at ranges k)) (sym same) (hull_holds (In c) v (range_at ranges k) d.was (drawn_some (In c) (pick k) (range_at group k) (range_at ranges k) v e (range_drawn k hk)) d.point)))
+              (of_range ranges k (p.values k) (subst (Holds (range_at ranges k)) (sym same) (hull_holds (In c) v (range_at ranges k) d.was (drawn_some (In c) (pick k) (range_at group k) (range_at ranges k) v e (range_drawn k hk (keep_other k v hk e g))) d.point)))
         ]
 
     single_more : (k : ℕ) → k < length singles → length group + k < length picks
