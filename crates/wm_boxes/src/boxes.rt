@@ -69,6 +69,21 @@ impl Domain for Boxes {
         })
     }
 
+    fn follow(&self, alloc: Global, shape: &Shape) -> Result<Boxes, NoMemory> {
+        let group = shape.group.items();
+        let spans = self.spans.follow(
+            alloc,
+            self.group,
+            group,
+            shape.singles.items(),
+            shape.arrays.items(),
+        )?;
+        Ok(Boxes {
+            group: group.len(),
+            spans,
+        })
+    }
+
     fn clear(&mut self) {
         self.spans.clear();
     }

@@ -5,7 +5,7 @@ use wm_arrays::Summary;
 use wm_domain::{Domain, Form, Relation, Shape, Term};
 use wm_interval::Interval;
 use wm_ops::NoMemory;
-use wm_projected::projected;
+use wm_projected::{followed, projected};
 use wm_tied::Tied;
 
 /// A state that keeps bounds on the variables of the group and on the sums and the differences of any two of them, the range
@@ -60,6 +60,17 @@ impl Domain for Groups {
             shape.arrays.items(),
             picks,
             arrays,
+        )?;
+        Ok(Groups { tied })
+    }
+
+    fn follow(&self, alloc: Global, shape: &Shape) -> Result<Groups, NoMemory> {
+        let tied = followed(
+            &self.tied,
+            alloc,
+            shape.group.items(),
+            shape.singles.items(),
+            shape.arrays.items(),
         )?;
         Ok(Groups { tied })
     }
