@@ -3,7 +3,6 @@ ghost use Rattle.std.specs.Prelude.{◌≡◌, [], IfOk};
 ghost use Rattle.wm_domain.specs.States.{Keeps, IsLeast};
 ghost use Rattle.wm_carry.specs.Following.{IsWay, Moved};
 
-use crate::origins::{array_picks, picks};
 use crate::way::Way;
 use wm_domain::Domain;
 use wm_ops::NoMemory;
@@ -17,8 +16,6 @@ pub fn carried<D: Domain>(way: &Way, at: &D) -> Result<D, NoMemory>
     ensures sound { IfOk result (λ s. Keeps D.holds D.shape_of s (Moved way.now.source.now way.now.target.now (D.holds at.now) [] [])) }
     ensures least { IfOk result (λ s. IsLeast D.holds D.shape_of s (Moved way.now.source.now way.now.target.now (D.holds at.now) [] [])) }
 {
-    let picks = picks(way)?;
-    let arrays = array_picks(way)?;
-    let state = at.project(way.alloc, way.target, &picks, &arrays)?;
+    let state = at.follow(way.alloc, way.target)?;
     Ok(state)
 }
