@@ -1,1 +1,2 @@
+pub mod Pacings
 pub mod Rounding
