@@ -1,13 +1,16 @@
 -- Ranges that are cut to small ones.
-use Rattle.std.proofs.Common.{◌≡◌, ℤ, pos, negsuc, ◌-ℤ◌, ◌≤ℤ◌, ◌<◌, ◌^◌, unsigned_abs, Some, arith}
+use Rattle.std.proofs.Common.{◌≡◌, ℤ, pos, negsuc, ◌-ℤ◌, ◌≤ℤ◌, ◌<◌, ◌^◌, unsigned_abs, List, [], ◌∷◌, length, Some, refl, sym, ◌∙◌, ap, subst, arith}
 use Rattle.std.proofs.lemmas.Int.{ints}
 use Rattle.wm_numbers.specs.Within.{Within, IsWord32}
 use Rattle.wm_numbers.proofs.Order.{le_refl}
 use Rattle.wm_interval.specs.declared.Interval.{Interval}
 use Rattle.wm_interval.specs.Holds.{Holds}
 use Rattle.wm_domain.specs.declared.form.Form.{Form}
+use Rattle.wm_domain.specs.declared.form.Term.{Term}
+use Rattle.wm_domain.specs.Forms.{form_value}
 use Rattle.wm_domain.specs.Points.{Point}
 use Rattle.wm_domain.specs.States.{IsSized}
+use Rattle.wm_assign.specs.Giving.{IsGiven, IsGivenBy}
 use Rattle.wm_given.specs.Parts.{IsCut}
 
 pub word_in : (all : Interval) (z : ℤ) → all.low ≡ negsuc 2147483647 → all.high ≡ pos 2147483647 → IsWord32 z → Holds all z
@@ -40,3 +43,15 @@ differences_low all e = omega (arith, ints, e)
 
 pub differences_high : (all : Interval) → all.high ≡ pos 4294967295 → all.high ≤ℤ pos 4294967295
 differences_high all e = omega (arith, ints, e)
+
+-- ---- forms of at most one term
+
+no_terms : (ts : List Term) → length ts ≡ 0 → ts ≡ []
+no_terms [] h = refl
+no_terms (t ∷ rest) h = absurd (omega arith)
+
+pub given_none : (Has : Point → Type 0) (f : Form) (was : Point) (z : ℤ) → length f.terms ≡ 0 → z ≡ form_value was.values f → IsGiven Has f was z
+given_none Has f was z e h = subst (λ (ts : List Term). IsGivenBy Has f ts was z) (sym (no_terms f.terms e)) h
+
+pub given_one : (Has : Point → Type 0) (f : Form) (t : Term) (rest : List Term) (was : Point) (z : ℤ) → f.terms ≡ t ∷ rest → length rest ≡ 0 → z ≡ form_value was.values f → IsGiven Has f was z
+given_one Has f t rest was z e n h = subst (λ (ts : List Term). IsGivenBy Has f ts was z) (sym (e ∙ ap (λ (xs : List Term). t ∷ xs) (no_terms rest n))) h

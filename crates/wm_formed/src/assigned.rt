@@ -1,7 +1,7 @@
 // The image of a state where a variable gets the value of a form.
 ghost use Rattle.std.specs.Prelude.{◌≡◌, ◌∷◌, ◌<◌, [], IfOk};
 ghost use Rattle.wm_domain.specs.Forms.{IsForm};
-ghost use Rattle.wm_domain.specs.States.{count_of, Keeps};
+ghost use Rattle.wm_domain.specs.States.{count_of, Keeps, IsLeast};
 ghost use Rattle.wm_carry.specs.Following.{IsWay};
 ghost use Rattle.wm_assign.specs.Giving.{Sets, IsGiven, AreSeen};
 
@@ -21,6 +21,7 @@ fn both<D: Domain>(way: &Way, at: &D, v: u32, f: &Form, t: Term, u: Term) -> Res
     requires terms { f.now.terms ≡ t ∷ u ∷ [] }
     ensures shape { IfOk result (λ s. D.shape_of s ≡ way.now.target.now) }
     ensures sound { IfOk result (λ s. Keeps D.holds D.shape_of s (Sets way.now.source.now way.now.target.now (D.holds at.now) v (IsGiven (D.holds at.now) f.now))) }
+    ensures least { IfOk result (λ s. IsLeast D.holds D.shape_of s (Sets way.now.source.now way.now.target.now (D.holds at.now) v (IsGiven (D.holds at.now) f.now))) }
 {
     let value = pair_value(way.alloc, at, f, t, u)?;
     let state = set(way, at, v, value)?;
@@ -38,6 +39,7 @@ pub fn formed<D: Domain>(way: &Way, at: &D, v: u32, f: &Form) -> Result<D, NoMem
     requires seen { AreSeen way.now.source.now way.now.target.now v f.now.terms }
     ensures shape { IfOk result (λ s. D.shape_of s ≡ way.now.target.now) }
     ensures sound { IfOk result (λ s. Keeps D.holds D.shape_of s (Sets way.now.source.now way.now.target.now (D.holds at.now) v (IsGiven (D.holds at.now) f.now))) }
+    ensures least { IfOk result (λ s. IsLeast D.holds D.shape_of s (Sets way.now.source.now way.now.target.now (D.holds at.now) v (IsGiven (D.holds at.now) f.now))) }
 {
     match f.terms.items().split_first() {
         None => {

@@ -28,6 +28,7 @@ fn beside<D: Domain>(
     requires from { from < count_of (D.shape_of at.now) }
     requires other { other.variable < count_of (D.shape_of at.now) }
     ensures allowed { IfOk result (λ value. (was : Point) (z : ℤ) → IsWord32 (was.values from) → IsWord32 z → InRange (D.holds at.now) f.now z → InRange (D.holds at.now) (rest_form other f.now.constant) (z -ℤ was.values from) → Allowed value was z) }
+    ensures made { IfOk result (λ value. (was : Point) (z : ℤ) → Allowed value was z → InRange (D.holds at.now) f.now z × InRange (D.holds at.now) (rest_form other f.now.constant) (z -ℤ was.values from)) }
     ensures fit { IfOk result (λ value. (s t : Shape) (v : ℕ) → count_of s ≡ count_of (D.shape_of at.now) → IsSeen s t v from → IsFit s t v value) }
 {
     let words = Interval::new(-2147483648, 2147483647);
@@ -52,6 +53,7 @@ fn beside<D: Domain>(
 fn ranged<D: Domain>(at: &D, f: &Form) -> Option<Value>
     requires form { IsForm (count_of (D.shape_of at.now)) f.now }
     ensures allowed { (was : Point) (z : ℤ) → IsWord32 z → InRange (D.holds at.now) f.now z → Allowed result was z }
+    ensures made { (was : Point) (z : ℤ) → Allowed result was z → InRange (D.holds at.now) f.now z }
     ensures fit { (s t : Shape) (v : ℕ) → IsFit s t v result }
 {
     let words = Interval::new(-2147483648, 2147483647);
@@ -74,6 +76,7 @@ pub fn pair_value<D: Domain>(
     requires first { t.variable < count_of (D.shape_of at.now) }
     requires second { u.variable < count_of (D.shape_of at.now) }
     ensures allowed { IfOk result (λ value. (was : Point) (z : ℤ) → IsWord32 (was.values t.variable) → IsWord32 (was.values u.variable) → IsWord32 z → IsGivenBy (D.holds at.now) f.now (t ∷ u ∷ []) was z → Allowed value was z) }
+    ensures made { IfOk result (λ value. (was : Point) (z : ℤ) → Allowed value was z → IsGivenBy (D.holds at.now) f.now (t ∷ u ∷ []) was z) }
     ensures fit { IfOk result (λ value. (s g : Shape) (v : ℕ) → count_of s ≡ count_of (D.shape_of at.now) → AreSeen s g v (t ∷ u ∷ []) → IsFit s g v value) }
 {
     if !t.negative {

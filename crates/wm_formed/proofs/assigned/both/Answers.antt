@@ -6,6 +6,7 @@ use Rattle.wm_domain.specs.States.{count_of, InShape}
 use Rattle.wm_assign.specs.Allowing.{Allowed}
 use Rattle.wm_assign.specs.Giving.{IsGiven, IsGivenBy}
 use Rattle.wm_assign.proofs.Setting.{keeps_more}
+use Rattle.wm_assign.proofs.Leasts.{least_more}
 use Rattle.wm_filters.proofs.Staying.{word_at}
 use Rattle.wm_formed.proofs.assigned.both.Goals as goal
 
@@ -24,3 +25,10 @@ returns-clause-sound g c =
     (word_at t p c.args.v c.requires.way.target_shape (subst (λ (x : Shape). InShape x p) c.in_ok-state.ensures.shape i) c.requires.inside)
     (subst (λ (ts : List Term). IsGivenBy Has c.args.f.now ts was (p.values c.args.v)) c.requires.terms m))
     c.in_ok-state.ensures.sound
+
+pub returns-clause-least : goal.returns-clause-least
+returns-clause-least g c =
+    let Has = g.D.Domain.holds c.args.at.now in
+    least_more g.D.Domain.holds g.D.Domain.shape_of c.in_ok-state.state c.args.way.now.source.now c.args.way.now.target.now Has c.args.v (Allowed c.in_ok-value.value) (IsGiven Has c.args.f.now)
+    (λ was p h i m. subst (λ (ts : List Term). IsGivenBy Has c.args.f.now ts was (p.values c.args.v)) (sym c.requires.terms) (c.in_ok-value.ensures.made was (p.values c.args.v) m))
+    c.in_ok-state.ensures.least

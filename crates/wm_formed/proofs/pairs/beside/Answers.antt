@@ -32,3 +32,17 @@ returns-clause-fit g c = λ s t v e seen. (
   subst (λ (n : ℕ). c.args.from < n) (sym e) c.requires.from,
   seen,
 )
+
+pub returns-in-None-clause-made : goal.returns-in-None-clause-made
+returns-in-None-clause-made g c = λ was z h. absurd h
+
+pub returns-in-None-cut-clause-made : goal.returns-in-None-cut-clause-made
+returns-in-None-cut-clause-made g c = λ was z h. absurd h
+
+pub returns-clause-made : goal.returns-clause-made
+returns-clause-made g c = λ was z h.
+    let fits : FitsSigned w64 c.args.f.now.constant = search rules in
+    let rest = simp to_z-of_z at c.in_ok-rest.ensures in (
+      ((c.in-Some.ensures.exact z).0 h.0).0,
+      subst (λ (f : Form). InRange (g.D.Domain.holds c.args.at.now) f (z -ℤ was.values c.args.from)) rest ((c.in-Some-cut.ensures.exact (z -ℤ was.values c.args.from)).0 h.1).0,
+    )
