@@ -1,12 +1,11 @@
 -- What is paired by place is what each variable and each array comes from.
-use Rattle.std.proofs.Common.{◌≡◌, ◌⊎◌, inl, inr, ℕ, ◌+◌, ◌-◌, ◌<◌, ◌≤◌, List, [], ◌++◌, length, Option, Some, None, refl, sym, ◌∙◌, ap, subst, arith}
+use Rattle.std.proofs.Common.{◌≡◌, inl, inr, ℕ, ◌+◌, ◌-◌, ◌<◌, ◌≤◌, [], length, Some, None, refl, sym, ◌∙◌, ap, subst, arith}
 use Rattle.std.specs.Prelude.{slice_index_or}
-use Rattle.std.proofs.lemmas.List.{length-append, get_or_append_left, get_or-append_right}
-use Rattle.wm_interval.specs.declared.Interval.{Interval}
+use Rattle.std.proofs.lemmas.List.{get_or_append_left, get_or-append_right}
 use Rattle.wm_domain.specs.declared.shape.Shape.{Shape}
 use Rattle.wm_domain.specs.Points.{Point, range_at, nought}
 use Rattle.wm_domain.specs.States.{variables_of, count_of, array_count, Keeps, IsLeast}
-use Rattle.wm_domain.specs.Places.{placed, places, array_places, ArePaired, Followed}
+use Rattle.wm_domain.specs.Places.{places, array_places, ArePaired, Followed}
 use Rattle.wm_domain.proofs.Pairs.{placed_length, placed_here, placed_past, places_length, places_group, places_single}
 use Rattle.wm_carry.specs.Following.{origin_in, origin, array_origin, IsWay, Moved}
 use Rattle.wm_carry.proofs.Ranks.{side, in_here, in_past, in_group, in_singles, count_is, array_here, array_new}

@@ -3,7 +3,6 @@ use Rattle.std.proofs.Common.{◌≡◌, ◌⊎◌, inl, inr, ℕ, ◌+◌, ◌-
 use Rattle.std.specs.Prelude.{slice_index_or}
 use Rattle.wm_domain.specs.declared.shape.Shape.{Shape}
 use Rattle.wm_domain.specs.States.{count_of, array_count}
-use Rattle.wm_domain.specs.Changes.{ArePicks}
 use Rattle.wm_carry.specs.Following.{origin_in, origin, array_origin}
 
 pub side : (v n : ℕ) → (v < n) ⊎ (n ≤ v)
@@ -85,25 +84,6 @@ picked_here picks k v e = elim (side k (length picks)) [
   | inl h ↦ h
   | inr h ↦ none_of (sym (past_none picks k h) ∙ e)
 ]
-
-pub are_picks : (s t : Shape) (picks : List (Option ℕ)) → ((v : ℕ) → v < length picks → slice_index_or picks v None ≡ origin s t v) → ArePicks (count_of s) picks
-are_picks s t picks each = record {
-  named = λ k v e. origin_below s t k v (sym (each k (picked_here picks k v e)) ∙ e);
-  apart = λ k l v e f. origin_apart s t k l v (sym (each k (picked_here picks k v e)) ∙ e) (sym (each l (picked_here picks l v f)) ∙ f);
-}
-
-pub array_from : (s : Shape) (a b : ℕ) → array_origin s a ≡ Some b → (a < array_count s) × (b ≡ a)
-unfolding array_origin
-array_from s a b e = let i = in_some 0 (array_count s) a b e in (i.0, omega (arith, i.1))
-
-pub are_array_picks : (s : Shape) (picks : List (Option ℕ)) → ((a : ℕ) → a < length picks → slice_index_or picks a None ≡ array_origin s a) → ArePicks (array_count s) picks
-are_array_picks s picks each = record {
-  named = λ k a e. let i = array_from s k a (sym (each k (picked_here picks k a e)) ∙ e) in omega (arith, i.0, i.1);
-  apart = λ k l a e f.
-      let i = array_from s k a (sym (each k (picked_here picks k a e)) ∙ e) in
-      let j = array_from s l a (sym (each l (picked_here picks l a f)) ∙ f) in
-      omega (arith, i.1, j.1);
-}
 
 none_more : (a : ℕ) → 0 + a ≡ a
 none_more a = omega arith

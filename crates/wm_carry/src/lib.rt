@@ -7,5 +7,5 @@ mod origins;
 mod way;
 
 pub use carry::carried;
-pub use origins::{array_picks, origin, picks};
+pub use origins::origin;
 pub use way::Way;
