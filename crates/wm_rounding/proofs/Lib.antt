@@ -2,3 +2,4 @@ pub mod Cutting
 pub mod Meeting
 pub mod Cells
 pub mod Closing
+pub mod Implied

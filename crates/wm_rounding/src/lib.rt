@@ -3,6 +3,7 @@
 
 mod ends;
 mod forms;
+mod known;
 mod lines;
 mod rounding;
 

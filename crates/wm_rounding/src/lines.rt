@@ -11,6 +11,7 @@ ghost use Rattle.wm_rounding.specs.Cuts.{Cut, SetsCell, AllowsCells};
 
 use crate::ends::{around, summary_around};
 use crate::forms::{one_form, pair_form};
+use crate::known::{is_from, is_to};
 use std::alloc::Global;
 use wm_arrays::Summary;
 use wm_domain::{Domain, Form, Relation};
@@ -92,7 +93,12 @@ fn keep_above<D: Domain>(
 {
     match low {
         None => Ok(()),
-        Some(low) => keep_from(alloc, state, f, low),
+        Some(low) => {
+            if is_from(state, f, low) {
+                return Ok(());
+            }
+            keep_from(alloc, state, f, low)
+        },
     }
 }
 
@@ -111,7 +117,12 @@ fn keep_below<D: Domain>(
 {
     match high {
         None => Ok(()),
-        Some(high) => keep_to(alloc, state, f, high),
+        Some(high) => {
+            if is_to(state, f, high) {
+                return Ok(());
+            }
+            keep_to(alloc, state, f, high)
+        },
     }
 }
 
