@@ -1,0 +1,13 @@
+pub mod Counted
+pub mod Values
+pub mod Effects
+pub mod Tests
+pub mod Trees
+pub mod Parts
+pub mod Runs
+pub mod Ranks
+pub mod Sums
+pub mod Callers
+pub mod Spans
+pub mod Whole
+pub mod Standing

@@ -1,0 +1,4 @@
+//! Laws on the heads of a graph: in a well-formed program each is begun once.
+#![tactic(auto)]
+
+pub mod laws;
