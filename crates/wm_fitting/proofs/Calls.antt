@@ -201,7 +201,7 @@ begun_fits S function name arguments m =
     record {
       grows = record {
         sites = λ k it h. h;
-        loops = λ k it h. h;
+        loops = refl;
         objects = λ k h. h;
         locals = λ k h. h;
         calls = omega arith;

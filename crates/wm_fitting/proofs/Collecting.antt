@@ -1,5 +1,5 @@
 -- Steps that collect: what they give grows, and what joins two of them.
-use Rattle.std.proofs.Common.{◌≡◌, ℕ, zero, suc, Bool, true, false, cond, Option, Some, None, List, [], ◌∷◌, ◌++◌, length, refl, sym, ap, subst, arith}
+use Rattle.std.proofs.Common.{◌≡◌, ℕ, zero, suc, Bool, true, false, cond, Option, Some, None, List, [], ◌∷◌, ◌++◌, length, refl, sym, ap, subst, ◌∙◌, arith}
 use Rattle.std.proofs.lemmas.Bool.Decides.{nat_tests}
 use Rattle.std.specs.Prelude.{slice_get, ◌==◌, IsSomeAnd}
 use Rattle.wm_lang.specs.declared.place.Position.{Position}
@@ -64,7 +64,7 @@ has_stays k n xs e = has_stays_by k n xs (has n xs) e
 pub grows_none : (m : Marks) → Grows m m
 grows_none m = record {
   sites = λ k it e. e;
-  loops = λ k it e. e;
+  loops = refl;
   objects = λ k e. e;
   locals = λ k e. e;
   calls = omega arith;
@@ -74,7 +74,7 @@ grows_none m = record {
 pub grows_then : {l m n : Marks} → Grows l m → Grows m n → Grows l n
 grows_then h k = record {
   sites = λ i it e. k.sites i it (h.sites i it e);
-  loops = λ i it e. k.loops i it (h.loops i it e);
+  loops = k.loops ∙ h.loops;
   objects = λ i e. k.objects i (h.objects i e);
   locals = λ i e. k.locals i (h.locals i e);
   calls = omega arith;
@@ -84,7 +84,7 @@ grows_then h k = record {
 pub stands_back : {S : Setting} {m n : Marks} → Grows m n → Stands S n → Stands S m
 stands_back h t = record {
   sites = λ i it e. t.sites i it (h.sites i it e);
-  loops = λ i it e. t.loops i it (h.loops i it e);
+  loops = λ i it e. t.loops i it (subst (λ xs. slice_get xs i ≡ Some it) (sym h.loops) e);
   objects = λ i e. t.objects i (h.objects i e);
   locals = λ i e. t.locals i (h.locals i e);
   calls = λ i l. t.calls i (omega arith);
@@ -106,7 +106,7 @@ done {m = m} q = record { grows = grows_none m; fits = λ l t. q }
 grows_noted : (fault : TokenFault) (at : Position) (m : Marks) → Grows m (noted fault at m)
 grows_noted fault at m = record {
   sites = λ k it e. e;
-  loops = λ k it e. e;
+  loops = refl;
   objects = λ k e. e;
   locals = λ k e. e;
   calls = omega arith;
@@ -125,7 +125,7 @@ site_told kind at = record { kind = kind; token = at.token; place = at.place }
 pub grows_site : (kind : SiteKind) (at : Position) (m : Marks) → Grows m (with_site kind at m)
 grows_site kind at m = record {
   sites = λ k it e. get_front m.sites (site_told kind at ∷ []) k it e;
-  loops = λ k it e. e;
+  loops = refl;
   objects = λ k e. e;
   locals = λ k e. e;
   calls = omega arith;
@@ -135,7 +135,7 @@ grows_site kind at m = record {
 pub grows_waiting : (waiting : Option Position) (m : Marks) → Grows m (record m { waiting = waiting })
 grows_waiting waiting m = record {
   sites = λ k it e. e;
-  loops = λ k it e. e;
+  loops = refl;
   objects = λ k e. e;
   locals = λ k e. e;
   calls = omega arith;

@@ -38,9 +38,9 @@ pub also : {A : Type 0} {S : Setting} {P Q : A → Type 0} {m : Marks} {r : A ×
 also h f = record { grows = h.grows; fits = λ l t. f _ (h.fits l t) }
 
 -- what holds of the one thing that is there, and what else
-both : {X : Type 0} (o : Option X) {P Q R : X → Type 0} → IsSomeAnd o P → IsSomeAnd o Q → ((x : X) → P x → Q x → R x) → IsSomeAnd o R
+both : {X : Type 0} (o : Option X) {P Q R : X → Type 0} → IsSomeAnd o P → ((x : X) → o ≡ Some x → Q x) → ((x : X) → P x → Q x → R x) → IsSomeAnd o R
 both None p q f = p
-both (Some x) p q f = f x p q
+both (Some x) p q f = f x p (q x refl)
 
 -- ---- where a number or a condition is needed
 
@@ -129,13 +129,13 @@ taken_object : (S : Setting) (object : ℕ) (width : Width) (is_const : Bool) (m
 taken_object S object width is_const m f = record {
   grows = record {
     sites = λ k it h. h;
-    loops = λ k it h. h;
+    loops = refl;
     objects = λ k h. has_stays k object m.objects h;
     locals = λ k h. h;
     calls = omega arith;
     least = λ h. h;
   };
-  fits = λ l t. both (slice_get S.code.objects object) f.fits (t.objects object (has_with object m.objects)) (λ it s a. object_taken it a);
+  fits = λ l t. both (slice_get S.code.objects object) f.fits (t.objects object (has_with object m.objects) f.own) (λ it s a. object_taken it a);
 }
   where
     or_true : (p q : Bool) → q ≡ true → (p || q) ≡ true
@@ -149,7 +149,7 @@ taken_local : (S : Setting) (local : ℕ) (width : Width) (is_const : Bool) (m :
 taken_local S local width is_const m f = record {
   grows = record {
     sites = λ k it h. h;
-    loops = λ k it h. h;
+    loops = refl;
     objects = λ k h. h;
     locals = λ k h. has_stays k local m.locals h;
     calls = omega arith;

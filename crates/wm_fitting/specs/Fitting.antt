@@ -1,17 +1,20 @@
 -- What fits a program while expressions are read: the names of a scope, what was collected, and what an expression is.
 use Rattle.std.specs.Prelude.{◌≡◌, ℕ, ◌<◌, ◌≤◌, Bool, true, false, List, length, map, Some, None, slice_get}
 use Rattle.wm_ops.specs.declared.operators.Width.{Width}
+use Rattle.wm_program.specs.declared.program.LocalInfo.{LocalInfo}
 use Rattle.wm_program.specs.declared.program.LoopInfo.{LoopInfo}
+use Rattle.wm_program.specs.declared.program.ObjectInfo.{ObjectInfo}
 use Rattle.wm_program.specs.declared.program.SiteInfo.{SiteInfo}
 use Rattle.wm_program.specs.declared.program.SiteKind.TheVariants as kind
 use Rattle.wm_program.specs.declared.tree.Array.{Array}
 use Rattle.wm_program.specs.declared.tree.Expr.{Expr}
 use Rattle.wm_program.specs.declared.tree.Scalar.{Scalar}
+use Rattle.wm_program.specs.declared.tree.Scalar.TheVariants as scalar
 use Rattle.wm_program.specs.declared.tree.View.{View}
 use Rattle.wm_program.specs.declared.tree.View.TheVariants as view
 use Rattle.wm_program.specs.Code.{Code, Routine, routine_at}
 use Rattle.wm_program.specs.Trees.{expression_of, test_of, effect_of}
-use Rattle.wm_program.specs.WellFormed.{IsSite, Has, Slot, FitsScalar, FitsArray, scalar_width, array_width, needs_site, FitsExpression, FitsTest, FitsEffect, IsWritten, IsWrittenArray, routine_slots}
+use Rattle.wm_program.specs.WellFormed.{IsSite, Slot, FitsScalar, FitsArray, scalar_width, array_width, needs_site, FitsExpression, FitsTest, FitsEffect, IsWritten, IsWrittenArray, routine_slots}
 use Rattle.wm_scope.specs.declared.meaning.Meaning.{Meaning}
 use Rattle.wm_scope.specs.declared.meaning.Meaning.TheVariants as meaning
 use Rattle.wm_scope.specs.declared.scope.Scope.{Scope}
@@ -23,11 +26,13 @@ use Rattle.wm_value.specs.declared.form.Sight.{Sight}
 use Rattle.wm_value.specs.declared.form.Value.{Value}
 use Rattle.wm_value.specs.declared.form.Value.TheVariants.{Number, Truth, View as Seen, LostView, Function, Effect, Nothing}
 
--- a program, one of its functions, and the names in force at a place of this function
+-- a program, one of its functions, the names in force at a place of this function, and the number of the objects that the
+-- source declares
 pub record Setting : Type 0 where
   pub code : Code
   pub routine : Routine
   pub scope : Scope
+  pub own : ℕ
 
 -- ---- names
 
@@ -40,7 +45,14 @@ pub record FunctionFits (S : Setting) (function : ℕ) : Type 0 where
   pub result : result_of function S.scope ≡ (routine_at S.code function).result
   pub slots : map slot_seen (slots_of function S.scope) ≡ routine_slots (routine_at S.code function)
 
+-- an object is one of the source
+abbrev pub IsOwn : ℕ → Scalar → Type 0
+IsOwn own scalar.Overflow = Unit {0}
+IsOwn own (scalar.Object object) = object < own
+IsOwn own (scalar.Local local) = Unit {0}
+
 pub record ScalarFits (S : Setting) (scalar : Scalar) (width : Width) (is_const : Bool) : Type 0 where
+  pub own : IsOwn S.own scalar
   pub fits : FitsScalar S.code S.routine scalar
   pub width_told : scalar_width S.code S.routine scalar ≡ width
   pub written : is_const ≡ false → IsWritten S.code S.routine scalar
@@ -64,19 +76,19 @@ pub record ScopeFits (S : Setting) : Type 0 where
 
 -- ---- what was collected
 
--- what was collected stands in the program: sites and loops at their numbers, the addresses that are taken, and an offset
--- for each call
+-- what was collected stands in the program: sites and loops at their numbers, what is there has its address taken where it was
+-- taken, and an offset for each call
 pub record Stands (S : Setting) (m : Marks) : Type 0 where
   pub sites : (k : ℕ) (it : SiteInfo) → slice_get m.sites k ≡ Some it → slice_get S.code.sites k ≡ Some it
   pub loops : (k : ℕ) (it : LoopInfo) → slice_get m.loops k ≡ Some it → slice_get S.code.loops k ≡ Some it
-  pub objects : (k : ℕ) → has k m.objects ≡ true → Has S.code.objects k (λ it. it.addressed ≡ true)
-  pub locals : (k : ℕ) → has k m.locals ≡ true → Has S.routine.locals k (λ it. it.addressed ≡ true)
+  pub objects : (k : ℕ) → has k m.objects ≡ true → k < S.own → (it : ObjectInfo) → slice_get S.code.objects k ≡ Some it → it.addressed ≡ true
+  pub locals : (k : ℕ) → has k m.locals ≡ true → (it : LocalInfo) → slice_get S.routine.locals k ≡ Some it → it.addressed ≡ true
   pub calls : (k : ℕ) → k < length m.calls → 0 < offset_of k S.scope
 
--- what was collected only grows, and a fault stays
+-- what was collected only grows, loops aside, which an expression has none of; and a fault stays
 pub record Grows (m n : Marks) : Type 0 where
   pub sites : (k : ℕ) (it : SiteInfo) → slice_get m.sites k ≡ Some it → slice_get n.sites k ≡ Some it
-  pub loops : (k : ℕ) (it : LoopInfo) → slice_get m.loops k ≡ Some it → slice_get n.loops k ≡ Some it
+  pub loops : n.loops ≡ m.loops
   pub objects : (k : ℕ) → has k m.objects ≡ true → has k n.objects ≡ true
   pub locals : (k : ℕ) → has k m.locals ≡ true → has k n.locals ≡ true
   pub calls : length m.calls ≤ length n.calls

@@ -1,5 +1,5 @@
 -- The steps that collect.
-use Rattle.std.proofs.Common.{ℕ, Bool, true, false, cond, Option, Some, None, [], ◌∷◌, length, length-append, ℤ, pos, arith}
+use Rattle.std.proofs.Common.{ℕ, Bool, true, false, cond, Option, Some, None, [], ◌∷◌, length, length-append, ℤ, pos, refl, arith}
 use Rattle.std.specs.Ordering.{int_eq}
 use Rattle.std.specs.Prelude.{◌==◌}
 use Rattle.wm_lang.specs.declared.place.Position.{Position}
@@ -21,7 +21,7 @@ use Rattle.wm_fitting.proofs.Collecting.{has_stays, grows_none, grows_then, grow
 pub noted_grows : (fault : TokenFault) (at : Position) (m : Marks) → Grows m (noted fault at m)
 noted_grows fault at m = record {
   sites = λ k it e. e;
-  loops = λ k it e. e;
+  loops = refl;
   objects = λ k e. e;
   locals = λ k e. e;
   calls = omega arith;
@@ -90,7 +90,7 @@ link_site_grows mark z at m = grows_then (divided_grows mark z at m) (site_grows
 pub called_grows : (place : CallPlace) (m : Marks) → Grows m (called place m).1
 called_grows place m = record {
   sites = λ k it e. e;
-  loops = λ k it e. e;
+  loops = refl;
   objects = λ k e. e;
   locals = λ k e. e;
   calls = omega (arith, length-append m.calls (place ∷ []));
@@ -100,7 +100,7 @@ called_grows place m = record {
 pub took_object_grows : (object : ℕ) (m : Marks) → Grows m (took_object object m).1
 took_object_grows object m = record {
   sites = λ k it e. e;
-  loops = λ k it e. e;
+  loops = refl;
   objects = λ k e. has_stays k object m.objects e;
   locals = λ k e. e;
   calls = omega arith;
@@ -110,7 +110,7 @@ took_object_grows object m = record {
 pub took_local_grows : (local : ℕ) (m : Marks) → Grows m (took_local local m).1
 took_local_grows local m = record {
   sites = λ k it e. e;
-  loops = λ k it e. e;
+  loops = refl;
   objects = λ k e. e;
   locals = λ k e. has_stays k local m.locals e;
   calls = omega arith;

@@ -1,5 +1,5 @@
 -- What the names of variables mean.
-use Rattle.std.proofs.Common.{◌≡◌, ℕ, Bool, true, false, cond, not, ◌||◌, Option, Some, None, refl, sym, ap, subst}
+use Rattle.std.proofs.Common.{◌≡◌, ℕ, ◌<◌, Bool, true, false, cond, not, ◌||◌, Option, Some, None, refl, sym, ap, subst}
 use Rattle.std.specs.Option.{option_map_or}
 use Rattle.std.specs.Prelude.{IsTrue, IsSomeAnd, slice_get}
 use Rattle.wm_ops.specs.declared.operators.Width.TheVariants.{W32}
@@ -18,6 +18,7 @@ use Rattle.wm_fitting.specs.Fitting.{Setting, ScalarFits, ArrayFits, MeaningFits
 
 scalar_local : (S : Setting) (local : ℕ) (info : LocalInfo) → slice_get S.routine.locals local ≡ Some info → info.view ≡ false → info.array ≡ None → (is_const : Bool) → ScalarFits S (scalar.Local local) info.width is_const
 scalar_local S local info h v a is_const = record {
+  own = tt;
   fits = subst (λ o. IsSomeAnd o ScalarLocal) (sym h) (record { no_view = v; no_array = ap is_array a });
   width_told = ap (λ o. option_map_or (λ it. it.width) o W32) h;
   written = λ c. tt;
@@ -36,13 +37,14 @@ locals_fit S local info h v is_const = local_by S local info h v is_const info.a
 
 -- ---- objects
 
-pub objects_fit : (S : Setting) (object : ℕ) (info : ObjectInfo) → slice_get S.code.objects object ≡ Some info → (is_array : Bool) → info.scalar ≡ not is_array → MeaningFits S (object_meaning object info.width info.constant is_array)
-objects_fit S object info h true e = record {
+pub objects_fit : (S : Setting) (object : ℕ) (info : ObjectInfo) → slice_get S.code.objects object ≡ Some info → object < S.own → (is_array : Bool) → info.scalar ≡ not is_array → MeaningFits S (object_meaning object info.width info.constant is_array)
+objects_fit S object info h o true e = record {
   fits = subst (λ o. IsSomeAnd o ArrayObject) (sym h) (subst (λ b. IsTrue (not b || info.addressed)) (sym e) refl);
   width_told = ap (λ o. option_map_or (λ it. it.width) o W32) h;
   written = λ c. subst (λ o. IsSomeAnd o (λ it. it.constant ≡ false)) (sym h) c;
 }
-objects_fit S object info h false e = record {
+objects_fit S object info h o false e = record {
+  own = o;
   fits = subst (λ o. IsSomeAnd o (λ it. it.scalar ≡ true)) (sym h) e;
   width_told = ap (λ o. option_map_or (λ it. it.width) o W32) h;
   written = λ c. subst (λ o. IsSomeAnd o (λ it. it.constant ≡ false)) (sym h) c;

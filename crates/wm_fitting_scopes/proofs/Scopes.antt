@@ -20,7 +20,7 @@ moved : (S : Setting) (scope : Scope) → scope.signatures ≡ (S.scope).signatu
 moved S scope e (meaning.Operator op) f = tt
 moved S scope e (meaning.Counting call) f = tt
 moved S scope e (meaning.Function function) f = record { there = f.there; result = cc; slots = cc }
-moved S scope e (meaning.Scalar scalar width is_const) f = record { fits = f.fits; width_told = f.width_told; written = f.written }
+moved S scope e (meaning.Scalar scalar width is_const) f = record { own = f.own; fits = f.fits; width_told = f.width_told; written = f.written }
 moved S scope e (meaning.Array array width is_const) f = record { fits = f.fits; width_told = f.width_told; written = f.written }
 moved S scope e meaning.Nothing f = tt
 

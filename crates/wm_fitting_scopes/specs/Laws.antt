@@ -1,5 +1,5 @@
 -- The laws.
-use Rattle.std.specs.Prelude.{◌≡◌, ℕ, Bool, false, not, List, ◌++◌, Some, None, slice_get}
+use Rattle.std.specs.Prelude.{◌≡◌, ℕ, ◌<◌, Bool, false, not, List, ◌++◌, Some, None, slice_get}
 use Rattle.wm_program.specs.declared.program.LocalInfo.{LocalInfo}
 use Rattle.wm_program.specs.declared.program.ObjectInfo.{ObjectInfo}
 use Rattle.wm_program.specs.WellFormed.{views_before}
@@ -37,7 +37,7 @@ LocalsFit =
 -- what the name of an object means
 abbrev pub ObjectsFit : Type 0
 ObjectsFit =
-    (S : Setting) (object : ℕ) (info : ObjectInfo) → slice_get S.code.objects object ≡ Some info
+    (S : Setting) (object : ℕ) (info : ObjectInfo) → slice_get S.code.objects object ≡ Some info → object < S.own
     → (is_array : Bool) → info.scalar ≡ not is_array → MeaningFits S (object_meaning object info.width info.constant is_array)
 
 -- what the name of a parameter means, behind so many views

@@ -1,0 +1,4 @@
+pub mod Choosing
+pub mod Entries
+pub mod Offsets
+pub mod Programs
