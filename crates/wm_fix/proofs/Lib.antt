@@ -1,3 +1,3 @@
-pub mod Setting
-pub mod Keeping
+pub mod Replacing
 pub mod Raising
+pub mod Keeping

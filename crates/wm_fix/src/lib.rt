@@ -2,13 +2,17 @@
 //! the least accepted ones, and then are narrowed.
 #![tactic(auto)]
 
-mod edges;
 mod finding;
+mod images;
+mod labels;
 mod narrow;
 mod nodes;
 mod plan;
-mod recall;
 mod rise;
+mod setting;
+mod slim;
 mod states;
+mod tables;
+mod whole;
 
 pub use finding::find;

@@ -5,18 +5,18 @@ ghost use Rattle.wm_domain.specs.States.{IsShape};
 ghost use Rattle.wm_domain.specs.Changes.{InEither};
 ghost use Rattle.wm_images.specs.Nodes.{node_shape};
 ghost use Rattle.wm_walk.specs.Graphs.{AreStates};
-ghost use Rattle.wm_fix.specs.Setting.{IsSetAs, HoldsAt, IsShapedAt, IsLeastOn};
+ghost use Rattle.wm_fix.specs.Replaced.{IsSetAs, HoldsAt, IsShapedAt, IsLeastOn};
 
 use std::alloc::Global;
 use wm_domain::{Domain, Shape};
 use wm_flow::{Graph, Head};
 use wm_grid::Grid;
 use wm_labels::nowhere;
-use wm_ops::{List, NoMemory};
+use wm_ops::NoMemory;
 use wm_rounding::rounded;
 
 /// The shape of a node.
-fn shape_at(graph: &Graph, node: u32) -> Option<&Shape>
+pub(crate) fn shape_at(graph: &Graph, node: u32) -> Option<&Shape>
     ensures { IfSome result (λ shape. shape.now ≡ node_shape graph.now node) }
 {
     match graph.node_shape.items().get(node as usize) {
@@ -47,6 +47,14 @@ pub(crate) fn head_at(graph: &Graph, number: u32) -> Option<&Head>
     graph.heads.items().get(number as usize)
 }
 
+/// A state without a point at a node.
+pub(crate) fn bare_at<D: Domain>(alloc: Global, graph: &Graph, node: u32) -> Result<D, NoMemory>
+    requires shapes { All IsShape graph.now.shapes }
+    ensures shape { IfOk result (λ s. D.shape_of s ≡ node_shape graph.now node) }
+{
+    nowhere(alloc, graph, node)
+}
+
 /// A state without a point for each head.
 pub(crate) fn bare_states<D: Domain>(alloc: Global, graph: &Graph) -> Result<Vec<D>, NoMemory>
     requires shapes { All IsShape graph.now.shapes }
@@ -54,7 +62,7 @@ pub(crate) fn bare_states<D: Domain>(alloc: Global, graph: &Graph) -> Result<Vec
 {
     let mut states = Vec::new(alloc);
     for head in graph.heads.items() {
-        states.push(nowhere(alloc, graph, head.node)?)?;
+        states.push(bare_at(alloc, graph, head.node)?)?;
     }
     Ok(states)
 }
@@ -156,14 +164,14 @@ pub(crate) fn join<D: Domain>(
 }
 
 /// The state of a number.
-fn state_at<D: Domain>(states: &[D], number: u32) -> Option<&D>
+pub(crate) fn state_at<D: Domain>(states: &[D], number: u32) -> Option<&D>
     ensures { IfSome result (λ state. slice_get states.now number ≡ Some state.now) }
 {
     states.get(number as usize)
 }
 
 /// Whether a state holds no more than another one of the same head.
-fn is_within<D: Domain>(graph: &Graph, states: &[D], others: &[D], number: u32) -> bool
+pub(crate) fn is_within<D: Domain>(graph: &Graph, states: &[D], others: &[D], number: u32) -> bool
     requires states { AreStates D.shape_of graph.now states.now }
     requires others { AreStates D.shape_of graph.now others.now }
 {
@@ -190,15 +198,4 @@ pub(crate) fn are_within<D: Domain>(graph: &Graph, states: &[D], others: &[D], c
         }
     }
     true
-}
-
-/// The states as a list.
-pub(crate) fn listed<D: Domain>(alloc: Global, states: Vec<D>) -> Result<List<D>, NoMemory>
-    ensures same { IfOk result (λ list. list ≡ states.items) }
-{
-    let mut list = List::new(alloc);
-    for state in states {
-        list.push(state)?;
-    }
-    Ok(list)
 }

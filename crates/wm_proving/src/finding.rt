@@ -7,6 +7,7 @@ ghost use Rattle.wm_proving.specs.Proofs.{IsDrawnFor, IsGraphOf, IsProved};
 
 use crate::shapes::are_shapes;
 use std::alloc::Global;
+use wm_apart::{Apart, apart_of};
 use wm_certificate::Certificate;
 use wm_check::check;
 use wm_choose::choose_sums;
@@ -56,6 +57,21 @@ pub(crate) fn drawn(alloc: Global, program: &Program, sums: &[Sum]) -> Result<Gr
     Ok(graph)
 }
 
+/// The edges of a graph apart from each other. One that is not drawn as states are carried, which no program has, is refused.
+fn parted(alloc: Global, graph: &Graph) -> Result<Apart, NoMemory>
+    ensures shapes { IfOk result (λ apart. All IsShape apart.graph.shapes) }
+    ensures drawn { IfOk result (λ apart. AreDrawn IsDrawn apart.graph) }
+{
+    let apart = apart_of(alloc, graph)?;
+    if !are_shapes(apart.graph.shapes.items()) {
+        return Err(NoMemory);
+    }
+    if !is_drawn(alloc, &apart.graph) {
+        return Err(NoMemory);
+    }
+    Ok(apart)
+}
+
 /// A certificate for these sum counters.
 fn found<D: Domain>(
     alloc: Global,
@@ -69,7 +85,8 @@ fn found<D: Domain>(
     ensures states { IfOk result (λ found. AreStates D.shape_of found.graph found.certificate.heads) }
 {
     let graph = drawn(alloc, program, sums)?;
-    let certificate = find(alloc, &Steps, program, &graph, grid)?;
+    let apart = parted(alloc, &graph)?;
+    let certificate = find(alloc, &Steps, program, &graph, &apart, grid)?;
     Ok(Candidate { graph, certificate })
 }
 

@@ -1,7 +1,9 @@
 use Rattle.wm_walk.specs.Graphs.{AreStates}
+use Rattle.wm_fix.specs.Cores.{AreCores}
 use Rattle.wm_fix.proofs.narrow.narrowed.Given as goal
 
 abbrev pub invariant-loop-time : goal.invariant-loop-time
 invariant-loop-time g l = record {
-  states : AreStates g.D.Domain.shape_of l.graph l.states.items;
+  states : AreStates g.D.Domain.shape_of l.setting.apart.now.graph l.risen.states.items;
+  cores : AreCores g.D.Domain.shape_of l.setting.apart.now.graph l.labels.cores.items;
 }

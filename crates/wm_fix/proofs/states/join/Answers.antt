@@ -1,5 +1,5 @@
 use Rattle.std.proofs.Common.{◌<◌, length, rules}
-use Rattle.wm_fix.proofs.Setting.{set_as}
+use Rattle.wm_fix.proofs.Replacing.{set_as}
 use Rattle.wm_fix.proofs.Raising.{shaped_at}
 use Rattle.wm_fix.proofs.states.join.Goals as goal
 
