@@ -1,17 +1,16 @@
 -- The points of a state at the next node where some variables begin anew.
-use Rattle.std.proofs.Common.{◌≡◌, ◌≢◌, ◌⊎◌, inl, inr, ℕ, zero, suc, ◌+◌, ◌<◌, ◌≤◌, ℤ, pos, List, [], ◌∷◌, length, Option, Some, None, refl, sym, ◌∙◌, ap, subst, arith, Bool}
-use Rattle.std.specs.Prelude.{slice_index_or, All}
+use Rattle.std.proofs.Common.{◌≡◌, ◌≢◌, inl, inr, ℕ, zero, suc, ◌+◌, ◌<◌, ◌≤◌, ℤ, pos, List, [], ◌∷◌, length, refl, sym, ◌∙◌, ap, subst, arith, Bool}
+use Rattle.std.specs.Prelude.{slice_index_or}
 use Rattle.std.proofs.lemmas.Int.{ints}
 use Rattle.std.proofs.lemmas.Bool.{cases_eq}
 use Rattle.wm_interval.specs.declared.Interval.{Interval}
 use Rattle.wm_interval.specs.Holds.{Holds}
 use Rattle.wm_domain.specs.declared.shape.Shape.{Shape}
 use Rattle.wm_domain.specs.Points.{Point}
-use Rattle.wm_domain.specs.States.{count_of, array_count, InShape, Keeps, IsLeast}
-use Rattle.wm_domain.specs.Changes.{Projected, IsPicked, IsPickedCell, ArePicks, Freed}
+use Rattle.wm_domain.specs.States.{count_of, InShape, Keeps, IsLeast}
+use Rattle.wm_domain.specs.Changes.{Freed}
 use Rattle.wm_domain.proofs.Moving.{same_but_all}
-use Rattle.wm_carry.specs.Following.{origin, array_origin, Comes, IsApart, Moved}
-use Rattle.wm_carry.proofs.Ranks.{side, count_is, origin_below, origin_apart, picked_here, array_here, array_new}
+use Rattle.wm_carry.specs.Following.{origin, Comes, IsApart, Moved}
 use Rattle.wm_carry.proofs.Reaching.{Laws, least_as}
 use Rattle.wm_cleared.proofs.Freeing.{freed_through}
 use Rattle.wm_cleared.specs.Dropping.{Reset}

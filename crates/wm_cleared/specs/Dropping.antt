@@ -1,5 +1,5 @@
 -- Variables that begin anew.
-use Rattle.std.specs.Prelude.{ℕ, ◌≡◌, ℤ, pos, List, [], All}
+use Rattle.std.specs.Prelude.{ℕ, ◌≡◌, pos, List, [], All}
 use Rattle.wm_domain.specs.declared.shape.Shape.{Shape}
 use Rattle.wm_domain.specs.Points.{Point}
 use Rattle.wm_carry.specs.Following.{Moved}

@@ -1,7 +1,6 @@
-use Rattle.std.proofs.Common.{ℕ, ◌<◌, refl, sym, subst, ◌∙◌, [], take}
+use Rattle.std.proofs.Common.{ℕ, ◌<◌, refl, sym, subst, ◌∙◌}
 use Rattle.std.specs.Prelude.{slice_index_or}
 use Rattle.wm_domain.specs.declared.shape.Shape.{Shape}
-use Rattle.wm_domain.specs.Points.{Point}
 use Rattle.wm_domain.specs.States.{count_of, InShape}
 use Rattle.wm_carry.proofs.Ranks.{count_is}
 use Rattle.wm_cleared.proofs.Clearing.{cleared_more, cleared_all, least_more, least_all, full_sized}
