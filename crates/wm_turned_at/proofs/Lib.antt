@@ -1,1 +1,2 @@
+pub mod Grew
 pub mod Reverting

@@ -4,6 +4,7 @@ use Rattle.wm_domain.specs.declared.shape.Shape.{Shape}
 use Rattle.wm_domain.specs.States.{InShape, count_of}
 use Rattle.wm_turned.specs.Turning.{AllGrown}
 use Rattle.wm_turned_at.proofs.Reverting.{revert, revert_inside, all_grown, turn_moved, all_inside}
+use Rattle.wm_turned_at.proofs.Grew.{turned_least}
 use Rattle.wm_turned_at.proofs.turning.turned.Goals as goal
 
 pub turned_from-requires : goal.turned_from-requires
@@ -27,3 +28,9 @@ returns-clause-sound g c =
           (subst (λ (x : Shape). AllGrown x (g.D.Domain.holds c.in_ok-moved.moved) gs p) (sym c.in_ok-moved.ensures.shape)
           (all_grown s t m.was c.requires.way j (g.D.Domain.holds c.in_ok-moved.moved) gs p c.requires.counters here m.grown base));
     }
+
+pub returns-clause-least : goal.returns-clause-least
+returns-clause-least g c =
+    turned_least g.row.D.Denot g.D.Domain.PAIRS g.D.Domain.holds g.D.Domain.shape_of (record { inside = g.met.D.Domain.inside; closed = g.met.D.Domain.closed; cuts = g.met.D.Domain.cuts })
+    c.args.way.now.source.now c.args.way.now.target.now c.requires.way c.args.at.now c.in_ok-moved.moved c.in_ok-state.state c.args.growths.now c.requires.counters
+    c.requires.shape c.in_ok-moved.ensures.shape c.in_ok-moved.ensures.sound c.in_ok-moved.ensures.least c.in_ok-state.ensures.least
