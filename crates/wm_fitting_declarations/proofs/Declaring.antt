@@ -1,5 +1,5 @@
 -- Declarations in a block.
-use Rattle.std.proofs.Common.{◌≡◌, ◌≤◌, Bool, true, false, Option, Some, None, List, [], ◌∷◌, ◌++◌, sym, ap, subst, ◌∙◌}
+use Rattle.std.proofs.Common.{◌≡◌, ◌≤◌, Bool, true, false, Option, Some, None, List, [], ◌∷◌, sym, ap, subst, ◌∙◌}
 use Rattle.std.proofs.lemmas.List.Elements.{All-nil, All-head, All-tail, All-push, All-map}
 use Rattle.std.specs.List.{All}
 use Rattle.std.specs.Prelude.{map}
@@ -15,7 +15,7 @@ use Rattle.wm_program.specs.Trees.{fresh_of, tree_of, tree_step}
 use Rattle.wm_program.specs.WellFormed.{FitsFresh, FitsTree}
 use Rattle.wm_source.specs.Constants.{width_of}
 use Rattle.wm_body.specs.declared.work.Work.{Work}
-use Rattle.wm_body.specs.Declarations.{automatic, static_object, declared, kept, all_declared, declaration}
+use Rattle.wm_body.specs.Declarations.{declared, kept, all_declared, declaration}
 use Rattle.wm_fitting_declarations.specs.PlainDeclarations.{IsPlainDeclarator, IsPlainDeclaration}
 use Rattle.wm_fitting_declarations.specs.Works.{Home, Reads}
 use Rattle.wm_fitting_declarations.proofs.Stepping.{gives, then_reads, reads_also}

@@ -1,5 +1,5 @@
 -- Names, locals and objects that are made.
-use Rattle.std.proofs.Common.{◌≡◌, ℕ, ◌<◌, ◌≤◌, Bool, true, false, Option, List, [], ◌∷◌, ◌++◌, length, drop, length-append, refl, sym, subst, arith}
+use Rattle.std.proofs.Common.{◌≡◌, ℕ, ◌<◌, ◌≤◌, Bool, false, Option, List, [], ◌∷◌, ◌++◌, length, drop, length-append, refl, sym, subst, arith}
 use Rattle.std.proofs.lemmas.List.{drop-append-le}
 use Rattle.std.proofs.lemmas.List.Elements.{All-push}
 use Rattle.std.specs.List.{All}
@@ -15,11 +15,11 @@ use Rattle.wm_scope.specs.declared.fault.TokenFault.TheVariants.{Redefined, TooM
 use Rattle.wm_scope.specs.declared.meaning.Meaning.{Meaning}
 use Rattle.wm_scope.specs.Scopes.{is_here, with_name}
 use Rattle.wm_body.specs.declared.work.Work.{Work}
-use Rattle.wm_body.specs.Works.{tell, change, checked, declare, noted_local, with_local, make_local, noted_object, with_object, make_object}
+use Rattle.wm_body.specs.Works.{change, checked, declare, noted_local, with_local, make_local, noted_object, with_object, make_object}
 use Rattle.wm_fitting.specs.Fitting.{MeaningFits}
 use Rattle.wm_fitting.proofs.Collecting.{get_front, get_seam}
 use Rattle.wm_fitting_scopes.proofs.Scopes.{declared_fit}
-use Rattle.wm_fitting_declarations.specs.Works.{Home, seen, LikeLocal, LikeObject, WorkStands, Inside, Proceeds, Reads}
+use Rattle.wm_fitting_declarations.specs.Works.{Home, seen, LikeLocal, LikeObject, Proceeds, Reads}
 use Rattle.wm_fitting_declarations.proofs.Stepping.{no_wider, then_reads, reads_also, tells_where, tells_unless}
 
 -- ---- names
@@ -46,16 +46,19 @@ pub declare_reads : {H : Home} {P : Type 0} (name : Identifier) (g : Meaning) (v
 unfolding declare
 declare_reads {H = H} name g v f = record {
   grows = named name g v;
-  fits = λ p l t i. (tt, record {
-    names = declared_fit (seen H v.scope) i.names name.name g (f p);
-    behind = i.behind;
-    no_views = i.no_views;
-    there = i.there;
-    function = i.function;
-    result = i.result;
-    objects = i.objects;
-    loops = i.loops;
-  });
+  fits = λ p l t i. (
+    tt,
+    record {
+      names = declared_fit (seen H v.scope) i.names name.name g (f p);
+      behind = i.behind;
+      no_views = i.no_views;
+      there = i.there;
+      function = i.function;
+      result = i.result;
+      objects = i.objects;
+      loops = i.loops;
+    },
+  );
 }
 
 -- ---- locals
@@ -86,16 +89,19 @@ with_local_reads {H = H} name width array view v f =
         object_count = omega arith;
         scope = no_wider v.scope;
       };
-      fits = λ p l t i. ((i.behind, t.locals (length v.locals) info (get_seam v.locals info [])), record {
-        names = i.names;
-        behind = omega (arith, i.behind, length-append v.locals (info ∷ []));
-        no_views = λ e. pushed H.least v.locals info i.behind (i.no_views e) (f e);
-        there = i.there;
-        function = i.function;
-        result = i.result;
-        objects = i.objects;
-        loops = i.loops;
-      });
+      fits = λ p l t i. (
+        (i.behind, t.locals (length v.locals) info (get_seam v.locals info [])),
+        record {
+          names = i.names;
+          behind = omega (arith, i.behind, length-append v.locals (info ∷ []));
+          no_views = λ e. pushed H.least v.locals info i.behind (i.no_views e) (f e);
+          there = i.there;
+          function = i.function;
+          result = i.result;
+          objects = i.objects;
+          loops = i.loops;
+        },
+      );
     }
 
 pub make_local_reads : {H : Home} {P : Type 0} (name : Identifier) (width : Width) (array : Option ℕ) (view : Bool) (v : Work) → (H.has_views ≡ false → view ≡ false) → Reads H P (IsMade H (made_local name width array view)) v (make_local name width array view v)
@@ -123,16 +129,19 @@ with_object_reads {H = H} info v f = record {
     object_count = omega (arith, length-append v.objects (info ∷ []));
     scope = no_wider v.scope;
   };
-  fits = λ p l t i. ((omega (arith, t.own, length-append v.objects (info ∷ [])), t.objects (length v.objects) info (get_seam v.objects info [])), record {
-    names = i.names;
-    behind = i.behind;
-    no_views = i.no_views;
-    there = i.there;
-    function = i.function;
-    result = i.result;
-    objects = All-push ObjectFits v.objects info i.objects (f p);
-    loops = i.loops;
-  });
+  fits = λ p l t i. (
+    (omega (arith, t.own, length-append v.objects (info ∷ [])), t.objects (length v.objects) info (get_seam v.objects info [])),
+    record {
+      names = i.names;
+      behind = i.behind;
+      no_views = i.no_views;
+      there = i.there;
+      function = i.function;
+      result = i.result;
+      objects = All-push ObjectFits v.objects info i.objects (f p);
+      loops = i.loops;
+    },
+  );
 }
 
 pub make_object_reads : {H : Home} {P : Type 0} (at : Position) (info : ObjectInfo) (v : Work) → (P → ObjectFits info) → Reads H P (IsObject H info) v (make_object at info v)

@@ -3,7 +3,7 @@ use Rattle.std.proofs.Common.{◌≡◌, ℕ, ◌<◌, ◌≤◌, ℤ, List, [],
 use Rattle.std.proofs.lemmas.List.Elements.{All-nil, All-cons}
 use Rattle.std.specs.List.{All}
 use Rattle.std.specs.Option.{option_map_or}
-use Rattle.std.specs.Prelude.{Bool, false, IsSomeAnd, slice_get}
+use Rattle.std.specs.Prelude.{false, IsSomeAnd, slice_get}
 use Rattle.wm_lang.specs.declared.expression.Identifier.{Identifier}
 use Rattle.wm_lang.specs.declared.statement.Declarator.{Declarator}
 use Rattle.wm_lang.specs.declared.statement.Declarator.TheVariants as declarator
@@ -14,16 +14,14 @@ use Rattle.wm_ops.specs.declared.operators.Width.{Width}
 use Rattle.wm_ops.specs.declared.operators.Width.TheVariants.{W32}
 use Rattle.wm_program.specs.declared.program.LocalInfo.{LocalInfo}
 use Rattle.wm_program.specs.declared.tree.Converted.{Converted}
-use Rattle.wm_program.specs.declared.tree.Declared.{Declared}
 use Rattle.wm_program.specs.declared.tree.Expr.{Expr}
 use Rattle.wm_program.specs.declared.tree.Scalar.TheVariants as scalar
-use Rattle.wm_program.specs.Code.{Code, Routine}
 use Rattle.wm_program.specs.Trees.{expression_of, scalar_of, array_of, fresh_of}
 use Rattle.wm_program.specs.WellFormed.{Has, is_array, ScalarLocal, IsAutomatic, scalar_width, FitsConversion, FitsFresh}
 use Rattle.wm_scope.specs.declared.scope.Scope.{Scope}
 use Rattle.wm_marks.specs.declared.marks.Marks.{Marks}
-use Rattle.wm_body.specs.Declarations.{name_of, length_of, value_constants, list_constants, constants_of, converted, values_of, length_or, fresh}
-use Rattle.wm_body.specs.Lengths.{array_length, constants_in, count_of}
+use Rattle.wm_body.specs.Declarations.{length_of, value_constants, list_constants, constants_of, values_of, fresh}
+use Rattle.wm_body.specs.Lengths.{constants_in, count_of}
 use Rattle.wm_fitting.specs.Fitting.{Setting, ScopeFits, Good, Grows}
 use Rattle.wm_fitting.proofs.Collecting.{grows_none, chain, done}
 use Rattle.wm_fitting.proofs.Naming.{also}

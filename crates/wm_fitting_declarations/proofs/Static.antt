@@ -10,16 +10,16 @@ use Rattle.wm_program.specs.declared.program.ObjectInfo.{ObjectInfo}
 use Rattle.wm_scope.specs.declared.meaning.Meaning.TheVariants as meaning
 use Rattle.wm_body.specs.declared.work.Work.{Work}
 use Rattle.wm_body.specs.Declarations.{name_of, length_of, constants_of, info, object_meaning, object, make_static, static_object}
-use Rattle.wm_body.specs.Works.{within, change, checked, declare, make_object, static_name}
+use Rattle.wm_body.specs.Works.{within, checked, declare, make_object, static_name}
 use Rattle.wm_fitting.specs.Fitting.{Setting, MeaningFits}
 use Rattle.wm_fitting_parts.specs.Laws.{IsLength}
 use Rattle.wm_fitting_parts.proofs.Lengths as lengths
 use Rattle.wm_fitting_scopes.proofs.Meanings as meanings
 use Rattle.wm_fitting_declarations.specs.PlainDeclarations.{IsPlainDeclarator}
 use Rattle.wm_fitting_declarations.specs.Works.{Home, seen, LikeObject, Reads}
-use Rattle.wm_fitting_declarations.proofs.Stepping.{gives, then_reads, reads_also, within_reads}
+use Rattle.wm_fitting_declarations.proofs.Stepping.{then_reads, reads_also, within_reads}
 use Rattle.wm_fitting_declarations.proofs.Making.{check_reads, declare_reads, make_object_reads}
-use Rattle.wm_fitting_declarations.proofs.Parts.{IsCount, IsFor, AreNumbers, lengths_agree, constants_of_grow, constants_of_fit}
+use Rattle.wm_fitting_declarations.proofs.Parts.{AreNumbers, lengths_agree, constants_of_grow, constants_of_fit}
 use Rattle.wm_fitting_declarations.proofs.Automatic.{length_reads}
 
 constants_read : {H : Home} {P : Type 0} (width : Width) (it : Declarator) → IsPlainDeclarator it → (v : Work) → Reads H P (AreNumbers width it) v (within (constants_of width it) v)
@@ -51,7 +51,7 @@ object_reads {H = H} width is_const it q v =
     let n = within (constants_of width it) c.1 in
     then_reads (length_reads it q v) (then_reads (constants_read width it q c.1)
     (reads_also (make_object_reads name.at (info name.name width is_const c.0 n.0) n.1
-        (λ p. lengths.objects_fit name.name width is_const c.0 n.0 (lengths_agree it c.0 n.0 p.0.1 p.1.1) p.1.0))
+    (λ p. lengths.objects_fit name.name width is_const c.0 n.0 (lengths_agree it c.0 n.0 p.0.1 p.1.1) p.1.0))
     (λ number p h. tt)))
 
 make_static_reads : {H : Home} {P : Type 0} (width : Width) (is_const : Bool) (name : Identifier) (count : Option ℕ) (numbers : List ℤ) (v : Work) → (P → IsLength count numbers × All (HasWidth width) numbers) → Reads {A = Unit {0}} H P (λ u. Unit {0}) v (make_static width is_const name count numbers v)

@@ -5,10 +5,8 @@ use Rattle.wm_lang.specs.declared.expression.Expr.{Expr}
 use Rattle.wm_lang.specs.declared.place.Position.{Position}
 use Rattle.wm_ops.specs.declared.operators.Width.{Width}
 use Rattle.wm_program.specs.declared.tree.Statement.{Statement}
-use Rattle.wm_program.specs.declared.tree.Statement.TheVariants as s
-use Rattle.wm_program.specs.Tree as tree
 use Rattle.wm_program.specs.Trees.{all_of, tree_of}
-use Rattle.wm_program.specs.WellFormed.{is_skip, ends_in_return}
+use Rattle.wm_program.specs.WellFormed.{ends_in_return}
 use Rattle.wm_scope.specs.declared.scope.Scope.{Scope}
 use Rattle.wm_source.specs.Endings.{ends_so, end_so}
 use Rattle.wm_source.specs.Pieces.{Piece, Block, Empty, Act, If, IfElse, For, While, Do, Break, Continue, Return, Pieces, Done, Declare, Then}
@@ -74,8 +72,8 @@ mutual
       then_reads (condition_reads condition q.0 v) (then_reads (statement_ends b depth body q.1 test.1)
       (then_reads (statement_ends b depth otherwise q.2 first.1)
       (gives (λ p r e.
-          let g = both_end (ends_so body) (ends_so otherwise) e in
-          ap ends_in_return (of_if_else word.is_counted _ _ _) ∙ two _ _ (p.0.1 r g.0) (p.1 r g.1)))))
+      let g = both_end (ends_so body) (ends_so otherwise) e in
+      ap ends_in_return (of_if_else word.is_counted _ _ _) ∙ two _ _ (p.0.1 r g.0) (p.1 r g.1)))))
   statement_ends b depth (For word begin condition step body) q v = reads_also (statement_reads b depth (For word begin condition step body) q v) (λ it p f r e. never e)
   statement_ends b depth (While word condition body) q v = reads_also (statement_reads b depth (While word condition body) q v) (λ it p f r e. never e)
   statement_ends b depth (Do word body tail condition) q v = reads_also (statement_reads b depth (Do word body tail condition) q v) (λ it p f r e. never e)

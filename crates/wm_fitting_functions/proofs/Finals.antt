@@ -1,12 +1,11 @@
 -- Locals as they stand in the program: of each it is told whether its address is taken.
-use Rattle.std.proofs.Common.{◌≡◌, ℕ, zero, suc, ◌+◌, ◌≤◌, true, false, List, [], ◌∷◌, ◌++◌, length, drop, Some, refl, sym, ap, subst, ◌∙◌, append_assoc, append-nil, length-append, arith}
-use Rattle.std.proofs.lemmas.List.Elements.{All-nil, All-cons, All-head, All-tail}
+use Rattle.std.proofs.Common.{◌≡◌, ℕ, zero, suc, ◌+◌, true, false, List, [], ◌∷◌, ◌++◌, length, drop, Some, refl, sym, ap, subst, ◌∙◌, append_assoc, append-nil, length-append, arith}
+use Rattle.std.proofs.lemmas.List.Elements.{All-cons, All-head, All-tail}
 use Rattle.std.specs.List.{All}
-use Rattle.std.specs.Prelude.{IsSomeAnd, slice_get}
+use Rattle.std.specs.Prelude.{slice_get}
 use Rattle.wm_program.specs.declared.program.LocalInfo.{LocalInfo}
 use Rattle.wm_marks.specs.Marking.{has}
 use Rattle.wm_reading.specs.Finishing.{local, locals}
-use Rattle.wm_fitting_declarations.specs.Works.{LikeLocal}
 use Rattle.wm_fitting_functions.proofs.Likeness.{AreLike}
 
 -- those of a list, from a number on

@@ -1,5 +1,5 @@
 -- Functions with a block.
-use Rattle.std.proofs.Common.{◌≡◌, ℕ, ◌<◌, ◌≤◌, Bool, true, false, cond, List, [], ◌++◌, length, map, take, drop, Option, Some, None, refl, sym, ap, subst, ◌∙◌, arith}
+use Rattle.std.proofs.Common.{◌≡◌, ℕ, ◌<◌, ◌≤◌, Bool, true, false, cond, List, [], length, map, take, drop, Option, Some, None, refl, sym, ap, subst, ◌∙◌, arith}
 use Rattle.std.proofs.lemmas.List.Elements.{All-nil}
 use Rattle.std.specs.List.{All}
 use Rattle.std.specs.Option.{option_map_or}
@@ -9,12 +9,9 @@ use Rattle.wm_lang.specs.declared.statement.Block.{Block}
 use Rattle.wm_lang.specs.declared.statement.Statement.{Statement}
 use Rattle.wm_lang.specs.declared.unit.Function.{Function}
 use Rattle.wm_ops.specs.declared.operators.Width.{Width}
-use Rattle.wm_program.specs.declared.program.FunctionInfo.{FunctionInfo}
-use Rattle.wm_program.specs.declared.program.LocalInfo.{LocalInfo}
-use Rattle.wm_program.specs.declared.tree.Statement.{Statement as Made}
 use Rattle.wm_program.specs.Code.{Code, Routine, routine_of}
 use Rattle.wm_program.specs.Tree.{Tree}
-use Rattle.wm_program.specs.WellFormed.{RoutineFits, EndsInReturn, ends_in_return, slot_of_local}
+use Rattle.wm_program.specs.WellFormed.{EndsInReturn, ends_in_return, slot_of_local}
 use Rattle.wm_scope.specs.declared.fault.TokenFault.TheVariants.{MissingReturn}
 use Rattle.wm_source.specs.Endings.{end_so}
 use Rattle.wm_source.specs.Pieces.{Pieces, written_items}
@@ -23,7 +20,7 @@ use Rattle.wm_marks.specs.Marking.{has, noted}
 use Rattle.wm_body.specs.declared.work.Work.{Work}
 use Rattle.wm_body.specs.Statements.{pieces_in}
 use Rattle.wm_reading.specs.Finishing.{locals}
-use Rattle.wm_reading.specs.Functions.{parameters, begun_work, begin, ended, ended_work, finish, function}
+use Rattle.wm_reading.specs.Functions.{parameters, begun_work, begin, ended, finish, function}
 use Rattle.wm_reading.specs.Outlines.{maybe_width}
 use Rattle.wm_fitting.specs.Fitting.{Grows}
 use Rattle.wm_fitting.proofs.Collecting.{grows_none, some_none}
@@ -180,13 +177,15 @@ function_fits code own number offsets it block q v =
           let i1 = body_inside code own number R p.1 refl a0.1 in
           let a1 = k1.fits tt le te i1 in
           let a2 = k2.fits tt le te i1 in
-          let i2 = a1.1 in
-          (record {
-            parameters = subst (λ n. length p.1.locals ≤ n) (sym (finals_length e.marks.locals e.locals)) i2.behind;
-            views = finals_no_views e.marks.locals (length p.1.locals) e.locals (i2.no_views refl);
-            body = a1.0;
-            ends = ends_so_where it.name.at (maybe_width it.result) items e.marks _ l a2.0;
-          }, record { objects = i2.objects; loops = subst (λ xs. All (LoopFits code) xs) (sym g.loops) i2.loops });
+          let i2 = a1.1 in (
+            record {
+              parameters = subst (λ n. length p.1.locals ≤ n) (sym (finals_length e.marks.locals e.locals)) i2.behind;
+              views = finals_no_views e.marks.locals (length p.1.locals) e.locals (i2.no_views refl);
+              body = a1.0;
+              ends = ends_so_where it.name.at (maybe_width it.result) items e.marks _ l a2.0;
+            },
+            record { objects = i2.objects; loops = subst (λ xs. All (LoopFits code) xs) (sym g.loops) i2.loops },
+          );
     }
 
 pub functions_fit : (code : Code) (own number : ℕ) (offsets : List ℕ) (it : Function) (block : Block Statement) → IsPlainFunction it block → (v : Work)

@@ -1,5 +1,5 @@
 -- Locals that are alike in width, length and kind.
-use Rattle.std.proofs.Common.{◌≡◌, ℕ, zero, suc, ◌+◌, Bool, cond, List, [], ◌∷◌, length, map, take, Option, Some, None, refl, ap, ◌∙◌}
+use Rattle.std.proofs.Common.{◌≡◌, ℕ, zero, suc, ◌+◌, Bool, cond, List, [], ◌∷◌, length, map, take, Some, refl, ap, ◌∙◌}
 use Rattle.std.specs.List.{fold, count_by}
 use Rattle.std.specs.Prelude.{IsSomeAnd, slice_get}
 use Rattle.wm_ops.specs.declared.operators.Width.{Width}

@@ -11,7 +11,6 @@ use Rattle.wm_lang.specs.declared.place.Position.{Position}
 use Rattle.wm_lang.specs.declared.unit.Parameter.{Parameter}
 use Rattle.wm_lang.specs.declared.unit.ParameterKind.{ParameterKind}
 use Rattle.wm_lang.specs.declared.unit.ParameterKind.TheVariants as kinds
-use Rattle.wm_ops.specs.declared.operators.Width.{Width}
 use Rattle.wm_program.specs.declared.faults.What.TheVariants.{Locals}
 use Rattle.wm_program.specs.declared.program.LocalInfo.{LocalInfo}
 use Rattle.wm_program.specs.WellFormed.{Slot as Place, slot_of_local, views_before}
@@ -23,7 +22,7 @@ use Rattle.wm_scope.specs.Scopes.{is_here}
 use Rattle.wm_marks.specs.declared.marks.Marks.{Marks}
 use Rattle.wm_body.specs.declared.work.Work.{Work}
 use Rattle.wm_body.specs.Works.{within, tell, checked, declare, noted_local, make_local}
-use Rattle.wm_reading.specs.Functions.{length_in_brackets, brackets, parameter_meaning, views_after, parameter_by, parameter, parameters}
+use Rattle.wm_reading.specs.Functions.{length_in_brackets, brackets, parameter_meaning, parameter_by, parameter, parameters}
 use Rattle.wm_reading.specs.Outlines.{slot_of, slots_of}
 use Rattle.wm_fitting.specs.Fitting.{Setting, MeaningFits, Grows, slot_seen}
 use Rattle.wm_fitting.proofs.Collecting.{grows_none}
@@ -31,7 +30,7 @@ use Rattle.wm_fitting_growth_acts.proofs.Parts.{lengths_grow}
 use Rattle.wm_fitting_scopes.proofs.Meanings.{parameters_fit}
 use Rattle.wm_fitting_declarations.specs.Works.{Home, seen, LikeLocal, Reads}
 use Rattle.wm_fitting_declarations.proofs.Stepping.{stays, gives, then_reads, within_reads}
-use Rattle.wm_fitting_declarations.proofs.Making.{check_reads, declare_reads, made_local, IsMade, make_local_reads}
+use Rattle.wm_fitting_declarations.proofs.Making.{check_reads, declare_reads, made_local, make_local_reads}
 use Rattle.wm_fitting_functions.specs.Units.{IsThere, IsNamed}
 use Rattle.wm_fitting_functions.proofs.Likeness.{AreLike, is_view, count_like}
 
@@ -147,8 +146,8 @@ parameter_by_reads {H = H} f views it (Some name) h v e =
     then_reads (brackets_read it.kind name.at v) (then_reads (check_reads name b.1) (then_reads (stand_reads w)
     (then_reads (make_local_reads name slot.width None slot.is_view w (λ g. no_false slot.is_view (sym f ∙ g)))
     (then_reads (declare_reads name (parameter_meaning slot l.0 views) l.1
-        (λ p. meaning_by (seen H (l.1).scope) slot l.0 views (made it name) refl refl refl
-            (views_are v views it name e H.routine.locals p.0.1) (slice_get H.routine.locals l.0) refl p.1.1))
+    (λ p. meaning_by (seen H (l.1).scope) slot l.0 views (made it name) refl refl refl
+    (views_are v views it name e H.routine.locals p.0.1) (slice_get H.routine.locals l.0) refl p.1.1))
     (gives (λ p. tt))))))
 
 parameter_reads : {H : Home} {P : Type 0} → H.has_views ≡ true → (views : ℕ) (it : Parameter) → IsNamed it → (v : Work) → views ≡ count_by is_view v.locals → Reads {A = ℕ} H P (λ after. Unit {0}) v (parameter views it v)

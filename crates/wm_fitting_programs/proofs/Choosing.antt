@@ -1,24 +1,21 @@
 -- The function that chooses between several frame functions.
-use Rattle.std.proofs.Common.{◌≡◌, ℕ, suc, ◌+◌, ◌<◌, ◌≤◌, true, false, List, [], ◌∷◌, ◌++◌, length, map, take, pos, Some, None, refl, sym, ap, subst, arith}
+use Rattle.std.proofs.Common.{◌≡◌, ℕ, suc, ◌+◌, ◌<◌, ◌≤◌, true, false, List, [], ◌∷◌, length, map, take, pos, sym, ap, subst, arith}
 use Rattle.std.proofs.lemmas.Int.{ints}
 use Rattle.std.proofs.lemmas.List.Elements.{All-nil, All-head, All-tail}
 use Rattle.std.specs.List.{All}
-use Rattle.std.specs.Prelude.{IsSomeAnd, slice_get}
 use Rattle.wm_numbers.specs.Within.{IsWord32}
 use Rattle.wm_program.specs.declared.program.LocalInfo.{LocalInfo}
-use Rattle.wm_program.specs.declared.program.ObjectInfo.{ObjectInfo}
 use Rattle.wm_program.specs.declared.tree.Comparison.TheVariants.{Equal}
 use Rattle.wm_program.specs.declared.tree.Expr.TheVariants as expr
 use Rattle.wm_program.specs.declared.tree.Scalar.TheVariants as scalar
 use Rattle.wm_program.specs.declared.tree.Simple.TheVariants as simple
 use Rattle.wm_program.specs.declared.tree.Statement.{Statement}
-use Rattle.wm_program.specs.declared.tree.Statement.TheVariants as s
 use Rattle.wm_program.specs.Code.{Code, Routine, routine_at, routine_of}
 use Rattle.wm_program.specs.Tree as tree
-use Rattle.wm_program.specs.Trees.{expression_of, test_of, effect_of, tree_of}
-use Rattle.wm_program.specs.WellFormed.{Has, Slot, FitsExpression, FitsArguments, FitsDropped, FitsTest, FitsTree, RoutineFits, routine_slots, slot_of_local}
+use Rattle.wm_program.specs.Trees.{test_of, tree_of}
+use Rattle.wm_program.specs.WellFormed.{Has, FitsExpression, FitsArguments, FitsDropped, FitsTest, FitsTree, RoutineFits, routine_slots, slot_of_local}
 use Rattle.wm_calls.specs.Sizes.{size_at, plus}
-use Rattle.wm_inputs.specs.Chooser.{call_of, choice, either, chosen, chooser}
+use Rattle.wm_inputs.specs.Chooser.{call_of, choice, chosen, chooser}
 use Rattle.wm_fitting.proofs.Folds.{of_constant, of_scalar, of_call, of_compare}
 use Rattle.wm_fitting_statements.proofs.Forms.{of_empty, of_simple, of_if_else}
 use Rattle.wm_fitting_programs.specs.Laws.{IsFrame}
@@ -41,20 +38,22 @@ small n l = record { above = omega (arith, ints); below = omega (arith, ints, l)
 
 test_fits : (code : Code) (routine : Routine) (object n : ℕ) → Has code.objects object (λ it. it.scalar ≡ true) → n ≤ 2147483647 → FitsTest code routine (test_of (choice object n))
 test_fits code routine object n h l =
-    subst (λ t. FitsTest code routine t) (sym (of_compare (expr.Scalar (scalar.Object object)) Equal (expr.Constant (pos n))))
-    (subst (λ x. FitsExpression code routine x) (sym (of_scalar (scalar.Object object))) h,
-     subst (λ x. FitsExpression code routine x) (sym (of_constant (pos n))) (small n l))
+    subst (λ t. FitsTest code routine t) (sym (of_compare (expr.Scalar (scalar.Object object)) Equal (expr.Constant (pos n)))) (
+      subst (λ x. FitsExpression code routine x) (sym (of_scalar (scalar.Object object))) h,
+      subst (λ x. FitsExpression code routine x) (sym (of_constant (pos n))) (small n l),
+    )
 
 chosen_fits : (code : Code) (routine : Routine) (number object : ℕ) → Has code.objects object (λ it. it.scalar ≡ true) → (sizes : List ℕ) (n offset : ℕ) (frames : List ℕ) → All (IsFrame code) frames → 0 < offset → n + length frames ≤ 2147483647
     → Fits code routine number (chosen object sizes n offset frames)
 chosen_fits code routine number object h sizes n offset [] a o l = subst (λ t. FitsTree code routine number t false) (sym of_empty) tt
 chosen_fits code routine number object h sizes n offset (function ∷ []) a o l = call_fits code routine number function offset (All-head (IsFrame code) function [] a) o
 chosen_fits code routine number object h sizes n offset (function ∷ next ∷ rest) a o l =
-    subst (λ t. FitsTree code routine number t false) (sym (of_if_else false (choice object n) (call_of function offset) _))
-    (test_fits code routine object n h (less n (length rest) l),
-     call_fits code routine number function offset (All-head (IsFrame code) function (next ∷ rest) a) o,
-     chosen_fits code routine number object h sizes (n + 1) (plus offset (size_at sizes function)) (next ∷ rest) (All-tail (IsFrame code) function (next ∷ rest) a)
-         (plus_positive offset (size_at sizes function) o) (further n (length rest) l))
+    subst (λ t. FitsTree code routine number t false) (sym (of_if_else false (choice object n) (call_of function offset) _)) (
+      test_fits code routine object n h (less n (length rest) l),
+      call_fits code routine number function offset (All-head (IsFrame code) function (next ∷ rest) a) o,
+      chosen_fits code routine number object h sizes (n + 1) (plus offset (size_at sizes function)) (next ∷ rest) (All-tail (IsFrame code) function (next ∷ rest) a)
+          (plus_positive offset (size_at sizes function) o) (further n (length rest) l),
+    )
   where
     less : (n k : ℕ) → n + suc (suc k) ≤ 2147483647 → n ≤ 2147483647
     less n k l = omega (arith, l)

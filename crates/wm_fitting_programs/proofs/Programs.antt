@@ -12,12 +12,12 @@ use Rattle.wm_program.specs.declared.program.ObjectInfo.{ObjectInfo}
 use Rattle.wm_program.specs.declared.spec.RangeOf.{RangeOf}
 use Rattle.wm_program.specs.declared.spec.Spec.{Spec}
 use Rattle.wm_program.specs.Code.{Code, code_of, routine_of}
-use Rattle.wm_program.specs.WellFormed.{Has, ObjectFits}
+use Rattle.wm_program.specs.WellFormed.{ObjectFits}
 use Rattle.wm_scope.specs.declared.reading.Reading.{Reading}
 use Rattle.wm_inputs.specs.Chooser.{call_object, chooser}
 use Rattle.wm_inputs.specs.Ranges.{marked_object, marked_objects}
 use Rattle.wm_assemble.specs.declared.plan.Started.{Started}
-use Rattle.wm_assemble.specs.Linked.{functions_of, objects_of, finished}
+use Rattle.wm_assemble.specs.Linked.{functions_of, finished}
 use Rattle.wm_assemble.specs.Plans.{has_choice}
 use Rattle.wm_reading.specs.Reading.{read_unit}
 use Rattle.wm_fitting.proofs.Collecting.{get_front}

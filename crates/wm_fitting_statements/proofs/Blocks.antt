@@ -13,7 +13,7 @@ use Rattle.wm_body.specs.Statements.{blocked}
 use Rattle.wm_body.specs.Works.{entered, quit}
 use Rattle.wm_fitting.specs.Fitting.{ScopeFits}
 use Rattle.wm_fitting_scopes.proofs.Scopes.{opened_fit, left_as_entered}
-use Rattle.wm_fitting_declarations.specs.Works.{Home, seen, WorkStands, Widens, Proceeds, Inside, Reads}
+use Rattle.wm_fitting_declarations.specs.Works.{Home, seen, WorkStands, Proceeds, Inside, Reads}
 use Rattle.wm_fitting_statements.proofs.Forms.{of_block}
 
 abbrev pub Fits : Home → Bool → Statement → Type 0

@@ -89,7 +89,8 @@ with_loop_reads {H = H} at step depth v s =
           loops =
               All-push (LoopFits H.code) v.marks.loops info i.loops
               (record { function = subst (λ n. n < length H.code.routines) (sym i.function) i.there; least = s.0; greatest = s.1 });
-        });
+        },
+      );
     }
 
 pub loop_reads : {H : Home} {P : Type 0} (at : Position) (step depth : ℕ) (v : Work) → IsStep step → Reads H P (FitsLoop H.code H.routine H.function) v (make_loop at step depth v)

@@ -1,12 +1,10 @@
 -- Statements.
-use Rattle.std.proofs.Common.{◌≡◌, ℕ, ◌≤◌, Bool, true, false, not, List, [], ◌∷◌, ◌++◌, Some, None, refl, sym, subst, arith}
+use Rattle.std.proofs.Common.{◌≡◌, ℕ, ◌≤◌, Bool, true, not, List, [], ◌∷◌, ◌++◌, refl, sym, subst, arith}
 use Rattle.std.proofs.lemmas.List.Elements.{All-nil, All-push}
 use Rattle.std.specs.List.{All}
-use Rattle.std.specs.Option.{option_map_or}
 use Rattle.std.specs.Prelude.{IsTrue, map, ◌==◌}
 use Rattle.wm_lang.specs.declared.place.Position.{Position}
 use Rattle.wm_program.specs.declared.tree.Statement.{Statement}
-use Rattle.wm_program.specs.declared.tree.Statement.TheVariants as s
 use Rattle.wm_program.specs.Tree as tree
 use Rattle.wm_program.specs.Trees.{all_of, tree_of}
 use Rattle.wm_program.specs.WellFormed.{FitsTree}
@@ -16,7 +14,7 @@ use Rattle.wm_source.specs.Steps.{step_of}
 use Rattle.wm_value.specs.Needs.{condition_in}
 use Rattle.wm_body.specs.declared.work.Work.{Work}
 use Rattle.wm_body.specs.Declarations.{declaration}
-use Rattle.wm_body.specs.Simples.{simple, all_simple}
+use Rattle.wm_body.specs.Simples.{all_simple}
 use Rattle.wm_body.specs.Statements.{tested, leaping, statement_in, pieces_in}
 use Rattle.wm_body.specs.Works.{within, make_loop, leapt, deeper, entered}
 use Rattle.wm_fitting_declarations.specs.Works.{Home, Reads}

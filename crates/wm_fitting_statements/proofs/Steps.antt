@@ -1,7 +1,7 @@
 -- The step of a loop is from 1 to 32767.
 use Rattle.std.proofs.Common.{◌≡◌, ℕ, ◌<◌, Bool, true, false, ◌&&◌, cond, List, [], ◌∷◌, ℤ, Option, Some, None, refl, arith}
 use Rattle.std.proofs.lemmas.Bool.Decides.{nat_tests}
-use Rattle.std.specs.Prelude.{nat_lt, unsigned_abs, codes}
+use Rattle.std.specs.Prelude.{nat_lt, unsigned_abs}
 use Rattle.wm_lang.specs.declared.expression.Expr.{Expr}
 use Rattle.wm_lang.specs.declared.expression.Identifier.{Identifier}
 use Rattle.wm_lang.specs.declared.expression.SpotKind.{SpotKind}

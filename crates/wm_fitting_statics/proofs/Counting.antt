@@ -14,7 +14,7 @@ use Rattle.wm_source.specs.Pieces.{Piece, Block, Empty, Act, If, IfElse, For, Wh
 use Rattle.wm_source.specs.Steps.{step_of}
 use Rattle.wm_value.specs.Needs.{condition_in}
 use Rattle.wm_body.specs.declared.work.Work.{Work}
-use Rattle.wm_body.specs.Declarations.{automatic, static_object, declared as declared_by, kept, all_declared, declaration}
+use Rattle.wm_body.specs.Declarations.{declared as declared_by, kept, all_declared, declaration}
 use Rattle.wm_body.specs.Simples.{all_simple}
 use Rattle.wm_body.specs.Statements.{tested, statement_in, pieces_in}
 use Rattle.wm_body.specs.Works.{within, make_loop, deeper, entered}

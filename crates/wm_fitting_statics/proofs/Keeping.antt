@@ -1,5 +1,5 @@
 -- Steps that make no object, and those that make one.
-use Rattle.std.proofs.Common.{◌≡◌, ℕ, suc, ◌+◌, Bool, true, false, cond, List, [], ◌∷◌, ◌++◌, length, Option, Some, None, refl, ap, ◌∙◌, length-append, arith}
+use Rattle.std.proofs.Common.{◌≡◌, ℕ, ◌+◌, Bool, true, false, cond, List, [], ◌∷◌, ◌++◌, length, Option, Some, None, refl, ap, ◌∙◌, length-append, arith}
 use Rattle.std.specs.Prelude.{nat_lt, ◌==◌}
 use Rattle.wm_lang.specs.declared.expression.Identifier.{Identifier}
 use Rattle.wm_lang.specs.declared.place.Position.{Position}
@@ -12,9 +12,9 @@ use Rattle.wm_scope.specs.declared.fault.TokenFault.{TokenFault}
 use Rattle.wm_scope.specs.declared.fault.TokenFault.TheVariants.{Redefined, BreakOutside, TooMany}
 use Rattle.wm_scope.specs.Scopes.{is_here}
 use Rattle.wm_body.specs.declared.work.Work.{Work}
-use Rattle.wm_body.specs.Declarations.{name_of, length_of, constants_of, object, make_static, static_object, automatic}
+use Rattle.wm_body.specs.Declarations.{name_of, length_of, make_static, static_object, automatic}
 use Rattle.wm_body.specs.Statements.{leaping}
-use Rattle.wm_body.specs.Works.{within, tell, checked, declare, noted_local, make_local, noted_object, make_object, noted_loop, make_loop, leapt, entered, quit}
+use Rattle.wm_body.specs.Works.{within, tell, checked, declare, noted_local, make_local, noted_object, make_object, make_loop, leapt, entered, quit}
 use Rattle.wm_reading.specs.Functions.{brackets, parameter_by, parameter, parameters}
 
 kept : (b : Bool) (fault : TokenFault) (at : Position) (v : Work) → (cond b (tell fault at v) v).objects ≡ v.objects

@@ -1,5 +1,5 @@
 -- What is declared is made, at the same numbers.
-use Rattle.std.proofs.Common.{◌≡◌, ℕ, ◌+◌, ◌<◌, ◌≤◌, Bool, true, false, cond, not, List, [], ◌∷◌, ◌++◌, length, map, ℤ, Option, Some, None, refl, sym, ap, subst, ◌∙◌, length-append, arith}
+use Rattle.std.proofs.Common.{◌≡◌, ℕ, ◌≤◌, Bool, true, false, cond, List, [], ◌∷◌, ◌++◌, length, ℤ, Option, Some, None, refl, sym, ap, subst, ◌∙◌, length-append, arith}
 use Rattle.std.proofs.lemmas.List.Elements.{All-head, All-tail, All-weaker}
 use Rattle.std.specs.List.{All}
 use Rattle.std.specs.Prelude.{IsSomeAnd, is_some, nat_lt, slice_get}
@@ -13,7 +13,6 @@ use Rattle.wm_lang.specs.declared.unit.Item.{Item}
 use Rattle.wm_lang.specs.declared.unit.Item.TheVariants as forms
 use Rattle.wm_ops.specs.declared.operators.Width.{Width}
 use Rattle.wm_program.specs.declared.faults.What.TheVariants.{Functions}
-use Rattle.wm_program.specs.declared.program.FunctionInfo.{FunctionInfo}
 use Rattle.wm_program.specs.declared.program.ObjectInfo.{ObjectInfo}
 use Rattle.wm_program.specs.declared.tree.Array.{Array}
 use Rattle.wm_program.specs.declared.tree.Array.TheVariants as array
@@ -39,13 +38,12 @@ use Rattle.wm_reading.specs.Outlines as outlines
 use Rattle.wm_reading.specs.Reading as pass
 use Rattle.wm_reading.specs.Statics.{statics_of}
 use Rattle.wm_fitting.proofs.Collecting.{get_front, get_seam}
-use Rattle.wm_fitting_functions.specs.Units.{IsPlainFunction}
 use Rattle.wm_fitting_functions.proofs.Functions.{functions_fit}
 use Rattle.wm_fitting_statics.proofs.Counting.{functions_count}
 use Rattle.wm_fitting_statics.proofs.Keeping.{object_made}
 use Rattle.wm_fitting_units.specs.Passes.{IsPlainBody, IsPlainItem, IsObject, IsScalarMeant, IsArrayMeant, IsMeant, IsSigned, Agrees}
 use Rattle.wm_fitting_units.proofs.Lists.{push_two}
-use Rattle.wm_fitting_units.proofs.Outlining.{named_so, Declares, declares}
+use Rattle.wm_fitting_units.proofs.Outlining.{Declares, declares}
 
 -- ---- what is meant stays so while objects and functions are added
 
@@ -113,7 +111,7 @@ with_object o n p it width is_const w x a d e h =
           d.file (λ named. IsMeant w.objects (length p.functions) named.meaning)
           (all_grow p.work.objects w.objects (λ k y g. subst (λ ys. slice_get ys k ≡ Some y) (sym e) (get_front p.work.objects (x ∷ []) k y g)) (length p.functions) (length p.functions) (omega arith) o.work.scope.file a.names)
           (object_meant w.objects (length p.functions) o.objects width is_const (outlines.is_array it)
-            (subst (λ g. IsSomeAnd g (IsObject width is_const (outlines.is_array it))) (sym there) h));
+          (subst (λ g. IsSomeAnd g (IsObject width is_const (outlines.is_array it))) (sym there) h));
     }
 
 object_agrees : (b : Bool) (width : Width) (is_const : Bool) (it : Declarator) (o : Outline) (p : Pass) → Agrees o p

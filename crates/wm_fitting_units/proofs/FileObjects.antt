@@ -1,5 +1,5 @@
 -- Objects of file scope: lengths and numbers of a faultless reading, whatever was collected.
-use Rattle.std.proofs.Common.{◌≡◌, ℕ, ◌+◌, ◌<◌, ◌≤◌, Bool, true, false, ◌||◌, cond, Option, Some, None, List, [], ◌∷◌, ◌++◌, length, ℤ, pos, negsuc, refl, sym, ap, subst, ◌∙◌, length-append, arith}
+use Rattle.std.proofs.Common.{◌≡◌, ℕ, ◌+◌, ◌<◌, ◌≤◌, Bool, true, false, ◌||◌, cond, Option, Some, None, List, [], ◌∷◌, ◌++◌, length, ℤ, pos, negsuc, refl, ◌∙◌, length-append, arith}
 use Rattle.std.proofs.lemmas.Bool.Decides.{nat_tests}
 use Rattle.std.proofs.lemmas.List.Elements.{All-nil, All-cons, All-head, All-tail, All-push}
 use Rattle.std.specs.List.{All}
@@ -22,27 +22,23 @@ use Rattle.wm_program.specs.WellFormed.{ObjectFits}
 use Rattle.wm_scope.specs.declared.fault.TokenFault.TheVariants.{TooMany}
 use Rattle.wm_scope.specs.declared.scope.Scope.{Scope}
 use Rattle.wm_source.specs.Constants.{constant_of, wrapped}
-use Rattle.wm_source.specs.Firsts.{first_of}
 use Rattle.wm_source.specs.Reading.{source_of}
 use Rattle.wm_marks.specs.declared.marks.Marks.{Marks}
 use Rattle.wm_marks.specs.Marking.{pure}
-use Rattle.wm_value.specs.Needs.{number_in}
 use Rattle.wm_body.specs.declared.work.Work.{Work}
 use Rattle.wm_body.specs.Declarations.{name_of, length_of, value_constants, list_constants, constants_of, info, object}
-use Rattle.wm_body.specs.Lengths.{no_constant, constant_by, constant_in, constants_in, bad_length, told_length, counted_length, length_by, array_length, count_of}
+use Rattle.wm_body.specs.Lengths.{no_constant, constant_by, constant_in, constants_in, bad_length, told_length, length_by, array_length, count_of}
 use Rattle.wm_body.specs.Works.{within, tell, noted_object, with_object, make_object}
 use Rattle.wm_fitting.specs.Plain.{IsPlain}
 use Rattle.wm_fitting.proofs.Collecting.{some_none, get_front}
 use Rattle.wm_fitting.proofs.Ranges.{value_range}
 use Rattle.wm_fitting_growth.proofs.Adding.{noted_grows}
 use Rattle.wm_fitting_growth_acts.proofs.Parts.{constants_grow}
-use Rattle.wm_fitting_parts.specs.Laws.{IsLength}
-use Rattle.wm_fitting_parts.specs.PlainParts.{IsPlainOption}
 use Rattle.wm_fitting_parts.proofs.Lengths as lengths
 use Rattle.wm_fitting_declarations.specs.PlainDeclarations.{IsPlainValue, IsPlainList, IsPlainDeclarator}
 use Rattle.wm_fitting_declarations.specs.Works.{Proceeds}
 use Rattle.wm_fitting_declarations.proofs.Stepping.{marked, proceeds_then, stays}
-use Rattle.wm_fitting_declarations.proofs.Parts.{IsCount, IsFor, AreNumbers, length_grows, constants_of_grow, lengths_agree}
+use Rattle.wm_fitting_declarations.proofs.Parts.{IsCount, AreNumbers, length_grows, constants_of_grow, lengths_agree}
 
 -- where no fault is noted up to its end, what a step gives has the property
 abbrev Sound : {A : Type 0} → (A → Type 0) → A × Marks → Type 0
@@ -70,7 +66,7 @@ constants_behind scope width found (x ∷ rest) p m h l =
     let z = constant_in scope width x m in
     let g = constants_grow scope width (found ++ z.0 ∷ []) rest z.1 in
     let r = constants_behind scope width (found ++ z.0 ∷ []) rest (All-tail IsPlainValue x rest p) z.1
-        (All-push (HasWidth width) found z.0 h (constant_sound scope width x (All-head IsPlainValue x rest p) m (g.least l))) l in
+    (All-push (HasWidth width) found z.0 h (constant_sound scope width x (All-head IsPlainValue x rest p) m (g.least l))) l in
     (r.0, omega (arith, r.1, length-append found (z.0 ∷ [])))
 
 value_sound : (scope : Scope) (width : Width) (name : Identifier) (initial : Option Initializer) → IsPlainDeclarator (declarator.Scalar name initial) → (m : Marks) → Sound (AreNumbers width (declarator.Scalar name initial)) (value_constants width initial scope m)
@@ -195,5 +191,5 @@ object_read width is_const it q v =
     let second : FileReads c.1 n.1 = record { grows = marked c.1 _ gn; scope = refl; loops = gn.loops; fits = λ l a. a } in
     file_then first (file_then second (made name.at (info name.name width is_const c.0 n.0) n.1
     (λ l.
-        let numbers = numbers_sound v.scope width it q (c.1).marks l in
-        lengths.objects_fit name.name width is_const c.0 n.0 (lengths_agree it c.0 n.0 (length_sound v.scope it v.marks (gn.least l)) numbers.1) numbers.0)))
+    let numbers = numbers_sound v.scope width it q (c.1).marks l in
+    lengths.objects_fit name.name width is_const c.0 n.0 (lengths_agree it c.0 n.0 (length_sound v.scope it v.marks (gn.least l)) numbers.1) numbers.0)))

@@ -1,5 +1,5 @@
 -- Lists that grow by one at the end.
-use Rattle.std.proofs.Common.{◌≡◌, ℕ, zero, suc, List, [], ◌∷◌, ◌++◌, length, Some, ap, subst}
+use Rattle.std.proofs.Common.{◌≡◌, ℕ, zero, suc, List, [], ◌∷◌, ◌++◌, length, Some, subst}
 use Rattle.std.specs.Prelude.{slice_get}
 
 same : {X : Type 0} (x y : X) → Some x ≡ Some y → x ≡ y

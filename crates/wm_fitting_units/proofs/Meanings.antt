@@ -1,5 +1,5 @@
 -- The names of file scope fit the program.
-use Rattle.std.proofs.Common.{◌≡◌, ℕ, zero, suc, ◌<◌, ◌≤◌, Bool, true, false, cond, not, List, [], ◌∷◌, length, map, Option, Some, None, refl, sym, ap, subst, ◌∙◌, arith, bytes_eq}
+use Rattle.std.proofs.Common.{◌≡◌, ℕ, zero, suc, ◌<◌, ◌≤◌, Bool, true, false, cond, List, [], ◌∷◌, length, map, Option, Some, None, refl, sym, ap, subst, ◌∙◌, arith, bytes_eq}
 use Rattle.std.proofs.lemmas.List.Elements.{All-head, All-tail, All-weaker}
 use Rattle.std.proofs.lemmas.Option.{get_or_from_slice_get, slice_get-get_or}
 use Rattle.std.specs.List.{All}
@@ -17,14 +17,13 @@ use Rattle.wm_program.specs.declared.tree.Array.TheVariants as array
 use Rattle.wm_program.specs.declared.tree.Scalar.{Scalar}
 use Rattle.wm_program.specs.declared.tree.Scalar.TheVariants as scalar
 use Rattle.wm_program.specs.Code.{Code, Routine, no_routine, routine_of, routine_at}
-use Rattle.wm_program.specs.WellFormed.{Has, Slot, routine_slots}
+use Rattle.wm_program.specs.WellFormed.{Has, routine_slots}
 use Rattle.wm_scope.specs.declared.meaning.Meaning.{Meaning}
 use Rattle.wm_scope.specs.declared.meaning.Meaning.TheVariants as meaning
 use Rattle.wm_scope.specs.declared.meaning.Named.{Named}
 use Rattle.wm_scope.specs.declared.scope.Scope.{Scope}
 use Rattle.wm_scope.specs.declared.scope.Signature.{Signature}
 use Rattle.wm_scope.specs.Names.{latest, outermost, word_meaning}
-use Rattle.wm_scope.specs.Scopes.{result_of, slots_of}
 use Rattle.wm_body.specs.Declarations.{object_meaning}
 use Rattle.wm_reading.specs.Functions.{begun_scope}
 use Rattle.wm_fitting.specs.Fitting.{Setting, FunctionFits, MeaningFits, slot_seen}

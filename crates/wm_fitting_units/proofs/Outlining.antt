@@ -1,12 +1,11 @@
 -- What a declaration at file scope changes.
-use Rattle.std.proofs.Common.{◌≡◌, ℕ, Bool, true, false, cond, List, [], ◌∷◌, ◌++◌, length, Option, Some, None, refl, ap, ◌∙◌}
+use Rattle.std.proofs.Common.{◌≡◌, ℕ, Bool, true, false, cond, List, [], ◌∷◌, length, Option, Some, None, refl, ◌∙◌}
 use Rattle.std.proofs.lemmas.List.Elements.{All-push}
 use Rattle.std.specs.List.{All}
 use Rattle.std.specs.Prelude.{nat_lt}
 use Rattle.wm_lang.specs.declared.expression.Identifier.{Identifier}
 use Rattle.wm_lang.specs.declared.place.Position.{Position}
 use Rattle.wm_lang.specs.declared.statement.Block.{Block}
-use Rattle.wm_lang.specs.declared.statement.Declaration.{Declaration}
 use Rattle.wm_lang.specs.declared.statement.Declarator.{Declarator}
 use Rattle.wm_lang.specs.declared.statement.Statement.{Statement}
 use Rattle.wm_lang.specs.declared.unit.Function.{Function}
@@ -14,14 +13,12 @@ use Rattle.wm_lang.specs.declared.unit.Item.{Item}
 use Rattle.wm_lang.specs.declared.unit.Item.TheVariants as forms
 use Rattle.wm_ops.specs.declared.operators.Width.{Width}
 use Rattle.wm_program.specs.declared.faults.What.TheVariants.{Functions}
-use Rattle.wm_scope.specs.declared.fault.TokenFault.{TokenFault}
 use Rattle.wm_scope.specs.declared.fault.TokenFault.TheVariants.{Redefined, TooMany}
 use Rattle.wm_scope.specs.declared.meaning.Meaning.{Meaning}
 use Rattle.wm_scope.specs.declared.meaning.Meaning.TheVariants as meaning
 use Rattle.wm_scope.specs.declared.meaning.Named.{Named}
 use Rattle.wm_scope.specs.Names.{outermost, is_among}
 use Rattle.wm_source.specs.Constants.{width_of}
-use Rattle.wm_body.specs.declared.work.Work.{Work}
 use Rattle.wm_body.specs.Declarations.{name_of, object_meaning}
 use Rattle.wm_reading.specs.declared.outline.Outline.{Outline}
 use Rattle.wm_reading.specs.Outlines as outlines

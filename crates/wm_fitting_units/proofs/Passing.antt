@@ -1,5 +1,5 @@
 -- One way through a unit.
-use Rattle.std.proofs.Common.{◌≡◌, ℕ, ◌<◌, ◌≤◌, Bool, true, false, List, [], ◌∷◌, ◌++◌, length, Option, Some, None, refl, sym, ap, subst, ◌∙◌, length-append, arith}
+use Rattle.std.proofs.Common.{◌≡◌, ℕ, ◌≤◌, Bool, true, false, List, [], ◌∷◌, length, Option, Some, None, refl, sym, ap, subst, ◌∙◌, length-append, arith}
 use Rattle.std.proofs.lemmas.List.Elements.{All-head, All-tail}
 use Rattle.std.specs.List.{All}
 use Rattle.std.specs.Prelude.{slice_get}
@@ -11,13 +11,12 @@ use Rattle.wm_lang.specs.declared.unit.Item.{Item}
 use Rattle.wm_lang.specs.declared.unit.Item.TheVariants as forms
 use Rattle.wm_ops.specs.declared.operators.Width.{Width}
 use Rattle.wm_program.specs.declared.program.FunctionInfo.{FunctionInfo}
-use Rattle.wm_program.specs.Code.{Code, Routine, routine_of}
+use Rattle.wm_program.specs.Code.{Code, routine_of}
 use Rattle.wm_program.specs.WellFormed.{RoutineFits}
 use Rattle.wm_scope.specs.declared.reading.CallPlace.{CallPlace}
 use Rattle.wm_scope.specs.declared.scope.Scope.{Scope}
 use Rattle.wm_source.specs.Constants.{width_of}
 use Rattle.wm_body.specs.declared.work.Work.{Work}
-use Rattle.wm_body.specs.Declarations.{object}
 use Rattle.wm_reading.specs.declared.unit.Pass.{Pass}
 use Rattle.wm_reading.specs.Functions.{begun_scope, function as function_in}
 use Rattle.wm_reading.specs.Outlines.{makes}

@@ -17,7 +17,6 @@ use Rattle.wm_reading.specs.Finishing as finals
 use Rattle.wm_reading.specs.Outlines as outlines
 use Rattle.wm_reading.specs.Reading as pass
 use Rattle.wm_fitting_declarations.specs.Works.{LikeObject, LoopFits}
-use Rattle.wm_fitting_functions.specs.Units.{UnitStands, UnitFits}
 use Rattle.wm_fitting_units.specs.Passes.{IsPlainItem, IsMeant, Agrees, SameObject, Contains, ReadingFits}
 use Rattle.wm_fitting_units.proofs.Agreeing.{items_agree}
 use Rattle.wm_fitting_units.proofs.Finals.{final_at, finals_fit}

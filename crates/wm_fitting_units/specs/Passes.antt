@@ -17,7 +17,6 @@ use Rattle.wm_program.specs.Code.{Code, routine_of}
 use Rattle.wm_program.specs.WellFormed.{Has, ObjectFits, RoutineFits, routine_slots}
 use Rattle.wm_scope.specs.declared.meaning.Meaning.{Meaning}
 use Rattle.wm_scope.specs.declared.meaning.Meaning.TheVariants as meaning
-use Rattle.wm_scope.specs.declared.meaning.Named.{Named}
 use Rattle.wm_scope.specs.declared.reading.CallPlace.{CallPlace}
 use Rattle.wm_scope.specs.declared.reading.Reading.{Reading}
 use Rattle.wm_scope.specs.declared.scope.Signature.{Signature}

@@ -1,13 +1,13 @@
 -- What strokes, calls and loops count, one behind another.
-use Rattle.std.proofs.Common.{◌≡◌, ℕ, suc, ◌+◌, Bool, true, false, List, [], ◌∷◌, ◌++◌, Option, refl, ap, ◌∙◌, arith}
-use Rattle.std.specs.Prelude.{if◌then◌else◌, ◌==◌}
+use Rattle.std.proofs.Common.{◌≡◌, ℕ, ◌+◌, Bool, true, false, List, [], ◌∷◌, ◌++◌, Option, refl, arith}
+use Rattle.std.specs.Prelude.{if◌then◌else◌}
 use Rattle.wm_program.specs.WellFormed.{Calling}
 use Rattle.wm_flow.specs.declared.seats.Tables.{Tables}
 use Rattle.wm_flow.specs.declared.scene.Scene.{Scene}
 use Rattle.wm_flow.specs.Plain.{Doing}
-use Rattle.wm_flow.specs.Places.{Plan, head_of}
+use Rattle.wm_flow.specs.Places.{Plan}
 use Rattle.wm_flow.specs.Strokes.{Stroke, Point, Line, Part, Begins, Turns, point, step}
-use Rattle.wm_heads.specs.Tally.{same, begins, called, own}
+use Rattle.wm_heads.specs.Tally.{begins, called, own}
 
 module _ (n : ℕ) (part : ℕ → ℕ) where
   pub join2 : (xs ys : List Stroke) (a b : ℕ) → begins n part xs ≡ a → begins n part ys ≡ b → begins n part (xs ++ ys) ≡ a + b

@@ -1,5 +1,5 @@
 -- The strokes of assignments, updates and declarations begin no head; they have the calls in them as parts.
-use Rattle.std.proofs.Common.{◌≡◌, ℕ, suc, ◌+◌, Bool, true, false, List, [], ◌∷◌, ◌++◌, Option, Some, None, refl, ◌∙◌, arith}
+use Rattle.std.proofs.Common.{◌≡◌, ℕ, Bool, true, false, List, [], ◌∷◌, Option, Some, None, refl, ◌∙◌, arith}
 use Rattle.std.specs.Prelude.{◌==◌}
 use Rattle.wm_ops.specs.declared.operators.Op.{Op}
 use Rattle.wm_program.specs.declared.tree.Array.{Array}

@@ -1,10 +1,10 @@
 -- The strokes of an instance begin the heads of its loops, and have its calls as parts.
-use Rattle.std.proofs.Common.{◌≡◌, ℕ, suc, ◌+◌, List, [], ◌∷◌, ◌++◌, refl, ◌∙◌, arith}
+use Rattle.std.proofs.Common.{◌≡◌, ℕ, suc, ◌+◌, List, [], ◌∷◌, ◌∙◌, arith}
 use Rattle.wm_program.specs.Code.{routine_at, function_of}
 use Rattle.wm_program.specs.WellFormed.{calls_of}
 use Rattle.wm_flow.specs.declared.scene.Scene.{Scene}
 use Rattle.wm_flow.specs.Places.{Plan}
-use Rattle.wm_flow.specs.Calls.{scene_of, addressed_in}
+use Rattle.wm_flow.specs.Calls.{scene_of}
 use Rattle.wm_flow.specs.Parts.{storing_from, stored_parameters, part_strokes}
 use Rattle.wm_heads.specs.Bodies.{loops_of}
 use Rattle.wm_heads.specs.Tally.{begins, called, own}

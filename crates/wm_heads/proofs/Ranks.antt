@@ -3,7 +3,6 @@ use Rattle.std.proofs.Common.{◌≡◌, ℕ, zero, suc, ◌+◌, ◌<◌, ◌�
 use Rattle.std.proofs.lemmas.Bool.Decides.{nat_tests}
 use Rattle.std.specs.Prelude.{if◌then◌else◌, ◌==◌, slice_index_or}
 use Rattle.wm_program.specs.declared.program.LoopInfo.{LoopInfo}
-use Rattle.wm_program.specs.WellFormed.{Has}
 use Rattle.wm_flow.specs.Seats.{loops_in, rank_after, ranks_from}
 use Rattle.wm_heads.proofs.Runs.{OfFunction, OfOther}
 

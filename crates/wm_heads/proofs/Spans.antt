@@ -1,6 +1,6 @@
 -- The heads of an instance are a span of numbers, and those of all instances stand one behind another.
 use Rattle.std.proofs.Common.{◌≡◌, ℕ, zero, suc, ◌+◌, ◌<◌, ◌≤◌, List, [], ◌∷◌, length, Option, Some, None, Bool, true, false, refl, ◌∙◌, arith, ⊎_elim}
-use Rattle.std.specs.Prelude.{nat_lt, ◌==◌, slice_get, slice_index_or}
+use Rattle.std.specs.Prelude.{nat_lt, slice_get, slice_index_or}
 use Rattle.std.proofs.lemmas.Bool.{cases_lt}
 use Rattle.wm_program.specs.declared.program.InstanceInfo.{InstanceInfo}
 use Rattle.wm_program.specs.declared.program.LoopInfo.{LoopInfo}

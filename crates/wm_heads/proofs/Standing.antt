@@ -1,5 +1,5 @@
 -- The heads of the instances of a well-formed program are all numbers below the number of heads, each once.
-use Rattle.std.proofs.Common.{◌≡◌, ℕ, zero, suc, ◌+◌, ◌<◌, ◌≤◌, List, [], ◌∷◌, ◌++◌, length, Option, Some, None, false, refl, ◌∙◌, arith, ⊎_elim}
+use Rattle.std.proofs.Common.{◌≡◌, ℕ, ◌+◌, ◌<◌, ◌≤◌, List, length, Some, false, refl, ◌∙◌, arith, ⊎_elim}
 use Rattle.std.specs.Prelude.{slice_get, slice_index_or}
 use Rattle.std.proofs.lemmas.Bool.{cases_lt}
 use Rattle.std.proofs.lemmas.Option.{slice_get-get_or}
@@ -7,22 +7,22 @@ use Rattle.wm_program.specs.declared.program.InstanceInfo.{InstanceInfo}
 use Rattle.wm_program.specs.Code.{Code, Routine, routine_at, function_of, no_routine}
 use Rattle.wm_program.specs.WellFormed.{WellFormedCode}
 use Rattle.wm_flow.specs.declared.graph.Sum.{Sum}
-use Rattle.wm_flow.specs.Seats.{loops_in, loop_counts, heads_from, tables_of}
+use Rattle.wm_flow.specs.Seats.{loop_counts, heads_from, tables_of}
 use Rattle.wm_flow.specs.Places.{head_of}
 use Rattle.wm_flow.specs.Parts.{plan_for, plan_of}
 use Rattle.wm_graph_laws.specs.Each.{Each}
 use Rattle.wm_graph_laws.specs.Begun.{all_begun, HeadsStand}
 use Rattle.wm_heads.specs.Bodies.{loops_of, numbers_from, LoopsStand}
-use Rattle.wm_heads.specs.Tally.{same, times, own}
+use Rattle.wm_heads.specs.Tally.{times, own}
 use Rattle.wm_heads.specs.Laws.{FormedHeadsStand}
 use Rattle.wm_heads.proofs.Runs.{loops_fit, OfFunction, Run, runs}
 use Rattle.wm_heads.proofs.Ranks.{ranks_run, counts_run}
 use Rattle.wm_heads.proofs.Sums.{total}
 use Rattle.wm_heads.proofs.Spans.{inside, inside_one, inside_past, inside_two, inside_same, own_run, span, heads_span, spans_total, count_at}
-use Rattle.wm_heads.proofs.Whole.{weight, all_begun_count, each_of, distinct_of, among_of}
+use Rattle.wm_heads.proofs.Whole.{all_begun_count, each_of, distinct_of, among_of}
 
 module _ (code : Code) (formed : WellFormedCode code) (stand : LoopsStand code) where
-  abbrev counts : List ℕ
+  abbrev pub counts : List ℕ
   counts = loop_counts code.routines code.loops 0
 
   zero_left : (k : ℕ) → 0 + k ≡ k
@@ -31,18 +31,18 @@ module _ (code : Code) (formed : WellFormedCode code) (stand : LoopsStand code) 
   bodies_fit : (k : ℕ) (routine : Routine) → slice_get code.routines k ≡ Some routine → Each (OfFunction code.loops (0 + k)) (loops_of routine.body)
   bodies_fit k routine e = rw (zero_left k) (loops_fit code routine k routine.body false (formed.routines k routine e).body)
 
-  run_at : (function : ℕ) (routine : Routine) → slice_get code.routines function ≡ Some routine → Run code.loops function (loops_of routine.body) 0 (length code.loops)
+  pub run_at : (function : ℕ) (routine : Routine) → slice_get code.routines function ≡ Some routine → Run code.loops function (loops_of routine.body) 0 (length code.loops)
   run_at function routine e =
       runs code.loops code.routines 0 0 (length code.loops) bodies_fit stand function function routine e (omega arith)
 
   -- so many loops of a function are counted
-  counted : (function : ℕ) (routine : Routine) → slice_get code.routines function ≡ Some routine → (run : Run code.loops function (loops_of routine.body) 0 (length code.loops)) → slice_index_or counts function 0 ≡ run.size
+  pub counted : (function : ℕ) (routine : Routine) → slice_get code.routines function ≡ Some routine → (run : Run code.loops function (loops_of routine.body) 0 (length code.loops)) → slice_index_or counts function 0 ≡ run.size
   counted function routine e run =
       count_at code.routines code.loops 0 function routine e
       ∙ (rw (zero_left function) (counts_run code.loops function run.first run.size (omega (arith, run.high))
       (λ j less. run.before j (omega arith) less) (λ j less. run.inside (run.first + j) (omega arith) (omega arith)) (λ j a b. run.after j a (omega arith))))
 
-  head_is : (instance function : ℕ) (body : List ℕ) (run : Run code.loops function body 0 (length code.loops)) (k : ℕ) → k < run.size → head_of (tables_of code) instance (run.first + k) ≡ slice_index_or (heads_from counts 1 code.instances) instance 0 + k
+  pub head_is : (instance function : ℕ) (body : List ℕ) (run : Run code.loops function body 0 (length code.loops)) (k : ℕ) → k < run.size → head_of (tables_of code) instance (run.first + k) ≡ slice_index_or (heads_from counts 1 code.instances) instance 0 + k
   unfolding tables_of
   head_is instance function body run k less =
       omega (arith, ranks_run code.loops function 0 0 run.first run.size k (λ e. refl) (λ j less. run.before j (omega arith) less) (λ j less. run.inside (run.first + j) (omega arith) (omega arith)) less)
@@ -75,7 +75,7 @@ module _ (code : Code) (formed : WellFormedCode code) (stand : LoopsStand code) 
     weights_total =
         spans_total n own_weight counts 1 0 code.instances (λ k info e. rw (zero_left k) (instance_own k info e))
 
-  heads_count : (tables_of code).heads ≡ 1 + span counts code.instances
+  pub heads_count : (tables_of code).heads ≡ 1 + span counts code.instances
   unfolding tables_of
   heads_count = heads_span counts 1 code.instances
 

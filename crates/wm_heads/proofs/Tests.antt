@@ -1,5 +1,5 @@
 -- The strokes of conditions begin no head; they have the calls in them as parts.
-use Rattle.std.proofs.Common.{◌≡◌, ℕ, suc, ◌+◌, Bool, true, false, List, [], ◌∷◌, ◌++◌, Option, Some, None, refl, ◌∙◌, arith}
+use Rattle.std.proofs.Common.{◌≡◌, ℕ, ◌+◌, Bool, true, false, [], ◌∷◌, Option, Some, None, refl, ◌∙◌, arith}
 use Rattle.std.specs.Prelude.{if◌then◌else◌, nat_lt}
 use Rattle.wm_ops.specs.declared.operators.Op.TheVariants as ops
 use Rattle.wm_program.specs.declared.tree.Comparison.{Comparison}

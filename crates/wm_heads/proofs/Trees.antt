@@ -1,5 +1,5 @@
 -- The strokes of statements begin the heads of the loops in them, and have the calls in them as parts.
-use Rattle.std.proofs.Common.{◌≡◌, ℕ, suc, ◌+◌, Bool, List, [], ◌∷◌, ◌++◌, Option, Some, None, refl, ◌∙◌, arith}
+use Rattle.std.proofs.Common.{◌≡◌, ℕ, suc, ◌+◌, Bool, List, [], ◌∷◌, ◌++◌, Option, refl, ◌∙◌, arith}
 use Rattle.wm_ops.specs.declared.words.ControlWord.{ControlWord}
 use Rattle.wm_program.specs.Tree.{Expression, Tree, Skip, Seq, Block, Empty, Declare, Act, If, IfElse, For, While, Do, Break, Continue, Return, Leave}
 use Rattle.wm_program.specs.WellFormed.{calls_in, calls_in_test, calls_in_effects, calls_of}
@@ -8,7 +8,7 @@ use Rattle.wm_flow.specs.declared.kept.Kept.{Kept}
 use Rattle.wm_flow.specs.declared.scene.Scene.{Scene}
 use Rattle.wm_flow.specs.Places.{Plan, bases_of, first_sum, head_of}
 use Rattle.wm_flow.specs.Strokes.{point}
-use Rattle.wm_flow.specs.Statements.{variables_of, clearing, clear_strokes, word_strokes, inside, sums_of, ties_from, ties_strokes, enter_strokes, turn_strokes, jump, join, stands, placed_strokes, Around, return_strokes, jump_strokes, tree_strokes}
+use Rattle.wm_flow.specs.Statements.{variables_of, clearing, clear_strokes, word_strokes, inside, sums_of, ties_from, ties_strokes, enter_strokes, turn_strokes, jump, stands, placed_strokes, Around, return_strokes, jump_strokes, tree_strokes}
 use Rattle.wm_heads.specs.Bodies.{loops_of}
 use Rattle.wm_heads.specs.Tally.{same, begins, called, own}
 use Rattle.wm_heads.proofs.Counted.{join2, join3, join4, join5, quiet_none, quiet_if, quiet_step, quiet_point, called_join, own_join}

@@ -1,5 +1,5 @@
 -- The strokes of expressions begin no head; they have the calls of the expression as parts.
-use Rattle.std.proofs.Common.{◌≡◌, ℕ, suc, ◌+◌, List, [], ◌∷◌, ◌++◌, Option, Some, None, ℤ, pos, refl, ◌∙◌, arith}
+use Rattle.std.proofs.Common.{◌≡◌, ℕ, suc, ◌+◌, List, [], ◌∷◌, Option, Some, None, ℤ, ◌∙◌, arith}
 use Rattle.wm_ops.specs.declared.operators.Op.{Op}
 use Rattle.wm_program.specs.declared.tree.Array.{Array}
 use Rattle.wm_program.specs.declared.tree.PlainMark.{PlainMark}
@@ -14,7 +14,7 @@ use Rattle.wm_flow.specs.declared.scene.Source.TheVariants.{Variable, Cells, Fix
 use Rattle.wm_flow.specs.Places.{Plan, bases_of, scalar_source, offset_of}
 use Rattle.wm_flow.specs.Strokes.{point}
 use Rattle.wm_flow.specs.Yields.{own_operator, yield_strokes, must_yield, to_temporary}
-use Rattle.wm_flow.specs.Expressions.{moves, place_form, place_size, place_strokes, plain_strokes, narrow_strokes, operate_strokes, call_strokes, value, values_after, size, sizes, strokes, all_strokes, waiting, no_values, named_strokes, element_strokes}
+use Rattle.wm_flow.specs.Expressions.{moves, place_strokes, plain_strokes, narrow_strokes, operate_strokes, call_strokes, strokes, all_strokes, no_values, named_strokes, element_strokes}
 use Rattle.wm_heads.specs.Tally.{begins, called}
 use Rattle.wm_heads.proofs.Counted.{join2, join3, join4, quiet_none, quiet_if, quiet_step, called_join}
 

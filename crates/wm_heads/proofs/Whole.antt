@@ -1,29 +1,23 @@
 -- Each head of a well-formed program is begun once: how often is counted through all instances.
-use Rattle.std.proofs.Common.{◌≡◌, ℕ, zero, suc, ◌+◌, ◌<◌, ◌≤◌, List, [], ◌∷◌, ◌++◌, map, length, Option, Some, None, Bool, true, false, refl, ◌∙◌, arith, ⊎_elim, inl, inr}
-use Rattle.std.specs.Prelude.{◌==◌, slice_get, slice_index_or}
-use Rattle.std.specs.Option.{option_map_or}
+use Rattle.std.proofs.Common.{◌≡◌, ℕ, zero, suc, ◌+◌, ◌<◌, ◌≤◌, List, [], ◌∷◌, ◌++◌, length, Option, Some, None, Bool, true, false, refl, ◌∙◌, arith, ⊎_elim, inl, inr}
+use Rattle.std.specs.Prelude.{◌==◌, slice_get}
 use Rattle.std.proofs.lemmas.Bool.{cases_lt}
 use Rattle.std.proofs.lemmas.Option.{slice_get-get_or}
 use Rattle.wm_program.specs.declared.program.InstanceInfo.{InstanceInfo}
-use Rattle.wm_program.specs.Code.{Code, Routine, routine_at, function_of, no_routine}
-use Rattle.wm_program.specs.WellFormed.{Has, Calling, calls_of, called_from, is_caller, InitFits, WellFormedCode, root_count, roots_among}
-use Rattle.wm_flow.specs.declared.graph.Sum.{Sum}
-use Rattle.wm_flow.specs.Seats.{loops_in, loop_counts, ranks_from, heads_from, heads_behind, tables_of}
-use Rattle.wm_flow.specs.Places.{Plan, head_of}
+use Rattle.wm_program.specs.Code.{routine_at, function_of}
+use Rattle.wm_program.specs.WellFormed.{Calling, calls_of, InitFits, WellFormedCode, root_count, roots_among}
+use Rattle.wm_flow.specs.Places.{Plan}
 use Rattle.wm_flow.specs.Strokes.{Stroke, Point, Line, Part, Begins, Turns, point}
-use Rattle.wm_flow.specs.Parts.{part_strokes, instance_count, plan_for, plan_of}
+use Rattle.wm_flow.specs.Parts.{part_strokes, instance_count}
 use Rattle.wm_flow.specs.Graphs.{before_frames, frame_strokes}
 use Rattle.wm_graph_laws.specs.Each.{Each}
-use Rattle.wm_graph_laws.specs.Begun.{begun_in, begun_part, all_begun, AreDistinct, IsAmong, HeadsStand}
-use Rattle.wm_heads.specs.Bodies.{loops_of, numbers_from, LoopsStand}
+use Rattle.wm_graph_laws.specs.Begun.{begun_in, begun_part, all_begun, AreDistinct, IsAmong}
+use Rattle.wm_heads.specs.Bodies.{loops_of}
 use Rattle.wm_heads.specs.Tally.{same, times, begins, called, own}
-use Rattle.wm_heads.specs.Laws.{FormedHeadsStand}
 use Rattle.wm_heads.proofs.Parts.{part_count}
-use Rattle.wm_heads.proofs.Runs.{has_map, each_on, loops_fit, Run, runs}
-use Rattle.wm_heads.proofs.Ranks.{ranks_run, counts_run}
 use Rattle.wm_heads.proofs.Sums.{weigh, CallerBelow, AreBelow, pick, if_called, calls_weigh, weigh_same, total, roots_total, root_part, one_root, two_roots}
 use Rattle.wm_heads.proofs.Callers.{equal, frame_root, first_root, callers_below}
-use Rattle.wm_heads.proofs.Spans.{inside, inside_one, inside_before, inside_past, same_one, same_none, inside_two, inside_same, inside_sized, own_run, span, heads_span, spans_total, count_at}
+use Rattle.wm_heads.proofs.Spans.{same_one, same_none}
 
 -- ---- numbers that stand once
 

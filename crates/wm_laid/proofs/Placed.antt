@@ -1,5 +1,5 @@
 -- A graph with ordered edges and heads that have their one entry and back edge is laid out.
-use Rattle.std.proofs.Common.{◌≡◌, ℕ, zero, suc, ◌<◌, ◌≤◌, List, [], ◌∷◌, map, length, Option, Some, None, refl, arith, ⊎_elim, ◌⊎◌, inl, inr}
+use Rattle.std.proofs.Common.{◌≡◌, ℕ, zero, suc, ◌<◌, ◌≤◌, List, [], ◌∷◌, map, length, Some, None, refl, arith, ⊎_elim, inl, inr}
 use Rattle.std.specs.Prelude.{slice_get, slice_index_or}
 use Rattle.std.proofs.lemmas.Bool.{cases_lt}
 use Rattle.std.proofs.lemmas.Option.{slice_get_past, slice_get-get_or}
@@ -11,7 +11,7 @@ use Rattle.wm_flow.specs.Graphs.{no_head}
 use Rattle.wm_flow.specs.Views.{arc_of, flow_of}
 use Rattle.wm_graph_laws.specs.Each.{Each}
 use Rattle.wm_graph_laws.specs.Ordered.{IsBefore, AreOrdered}
-use Rattle.wm_graph_laws.specs.Loops.{At, Returns, IsOneOf, Loop}
+use Rattle.wm_graph_laws.specs.Loops.{At, Returns, Loop}
 use Rattle.wm_graph_laws.specs.Laws.{head_at, IsOrderly, IsHeaded}
 use Rattle.wm_path_laws.specs.Choices.{IsNoBack, IsLaidOut}
 

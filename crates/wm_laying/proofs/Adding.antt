@@ -3,7 +3,6 @@ use Rattle.std.proofs.Common.{◌≡◌, ℕ, zero, suc, List, [], ◌∷◌, �
 use Rattle.std.specs.Option.{option_map_or}
 use Rattle.std.specs.Prelude.{slice_get}
 use Rattle.wm_program.specs.declared.program.InstanceInfo.{InstanceInfo}
-use Rattle.wm_program.specs.declared.program.Root.{Root}
 use Rattle.wm_scope.specs.declared.reading.CallPlace.{CallPlace}
 use Rattle.wm_instances.specs.Instances.{called, grown_each, grown}
 

@@ -9,7 +9,7 @@ use Rattle.wm_calls.specs.Sizes.{size_at, plus, size_from, size_in, size_round, 
 use Rattle.wm_instances.specs.Instances.{called, grown_each, grown}
 use Rattle.wm_laying.specs.Laws.{sizes_after}
 use Rattle.wm_laying.proofs.Adding.{Stays, each_stays, stays}
-use Rattle.wm_laying.proofs.Sums.{top, plus_exact, plus_more, plus_top, size_more, repeated_suc}
+use Rattle.wm_laying.proofs.Sums.{top, plus_exact, plus_top, size_more, repeated_suc}
 
 -- ---- sizes
 
@@ -146,7 +146,7 @@ offsets_told depth calls info made places e l j place offset g h z =
     let step = λ (it : CallPlace). grown depth calls (called (length made) info.roots it) in
     subst (λ o. slice_get (option_map_or (λ its. grown_each (λ it. grown depth calls (called (length made) info.roots it)) its (made ++ info ∷ [])) o made) (length made + offset) ≡ Some (called (length made) info.roots place)) (sym e)
     (each_stands step (called (length made) info.roots) (sizes_after depth calls)
-        (λ it more k. sizes_told depth calls (called (length made) info.roots it) more k)
-        (λ it more k. begins depth calls (called (length made) info.roots it) more k)
-        (λ it more. stays depth calls (called (length made) info.roots it) more)
-        (length made) 1 places (made ++ info ∷ []) l (length-append made (info ∷ [])) j place offset g h z)
+    (λ it more k. sizes_told depth calls (called (length made) info.roots it) more k)
+    (λ it more k. begins depth calls (called (length made) info.roots it) more k)
+    (λ it more. stays depth calls (called (length made) info.roots it) more)
+    (length made) 1 places (made ++ info ∷ []) l (length-append made (info ∷ [])) j place offset g h z)

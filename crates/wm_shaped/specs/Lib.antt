@@ -1,0 +1,5 @@
+pub mod Spots
+pub mod Fitting
+pub mod Nested
+pub mod Owners
+pub mod Laws

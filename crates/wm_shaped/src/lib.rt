@@ -1,0 +1,4 @@
+//! Laws on the shapes of the nodes of a graph.
+#![tactic(auto)]
+
+pub mod laws;
