@@ -1,21 +1,20 @@
 -- The beginning of a walk and its end.
-use Rattle.std.proofs.Common.{◌≡◌, ◌⊎◌, inl, inr, ℕ, zero, suc, ◌+◌, ◌<◌, List, [], ◌∷◌, ◌++◌, length, replicate, take, drop, Option, Some, None, Result, Ok, Err, Bool, true, false, refl, ap, subst, sym, ◌∙◌, arith}
+use Rattle.std.proofs.Common.{◌≡◌, ◌⊎◌, inl, inr, ℕ, zero, suc, ◌+◌, ◌<◌, List, [], ◌++◌, length, replicate, take, drop, Option, Some, None, Result, Ok, Err, true, false, refl, ap, subst, sym, ◌∙◌, arith}
 use Rattle.std.proofs.Math.Nat.{eq-or-lt_of_le}
 use Rattle.std.proofs.Math.Seq.{take-length}
 use Rattle.std.proofs.Math.ListN.{drop_of_length-le}
 use Rattle.std.proofs.lemmas.List.{append-nil, length-replicate}
 use Rattle.std.proofs.lemmas.List.Elements.{All-nil}
 use Rattle.std.proofs.lemmas.Option.{slice_get_within}
-use Rattle.std.specs.Prelude.{All, slice_get, IfNone, IfOk}
+use Rattle.std.specs.Prelude.{slice_get, IfNone, IfOk}
 use Rattle.std.specs.Option.{is_some}
 use Rattle.wm_program.specs.declared.program.Program.{Program}
 use Rattle.wm_cert.specs.declared.gap.Gap.{Gap}
 use Rattle.wm_domain.specs.declared.shape.Shape.{Shape}
 use Rattle.wm_domain.specs.Points.{Point}
-use Rattle.wm_flow.specs.declared.graph.Head.{Head}
 use Rattle.wm_flow.specs.declared.graph.Graph.{Graph}
 use Rattle.wm_images.specs.Nodes.{node_shape}
-use Rattle.wm_images.specs.Labels.{Receives, HoldsAlong}
+use Rattle.wm_images.specs.Labels.{HoldsAlong}
 use Rattle.wm_labels.specs.Labels.{IsLabel}
 use Rattle.wm_labels.specs.Accepted.{IsAccepted}
 use Rattle.wm_accept.specs.declared.entries.Entry.{Entry}

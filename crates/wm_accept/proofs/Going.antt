@@ -1,19 +1,17 @@
 -- One label more.
-use Rattle.std.proofs.Common.{◌≡◌, ◌⊎◌, inl, inr, ℕ, zero, suc, ◌+◌, ◌<◌, List, [], ◌∷◌, ◌++◌, length, Option, Some, None, refl, subst, sym, ap, ◌∙◌, arith, append_assoc, length-append}
+use Rattle.std.proofs.Common.{◌≡◌, ◌⊎◌, inl, inr, ℕ, zero, suc, ◌+◌, ◌<◌, List, [], ◌∷◌, ◌++◌, length, Option, Some, None, refl, subst, sym, ap, ◌∙◌, append_assoc, length-append}
 use Rattle.std.proofs.lemmas.List.Elements.{All-weaker, All-push}
 use Rattle.std.proofs.lemmas.Option.{slice_get_within}
 use Rattle.std.specs.Prelude.{All, slice_get}
 use Rattle.wm_program.specs.declared.program.Program.{Program}
 use Rattle.wm_domain.specs.declared.shape.Shape.{Shape}
 use Rattle.wm_domain.specs.Points.{Point}
-use Rattle.wm_flow.specs.declared.graph.Edge.{Edge}
 use Rattle.wm_flow.specs.declared.graph.Head.{Head}
 use Rattle.wm_flow.specs.declared.graph.Graph.{Graph}
 use Rattle.wm_images.specs.Nodes.{node_shape}
 use Rattle.wm_images.specs.Labels.{AreOf, AreShaped, Receives, HoldsAlong}
-use Rattle.wm_incoming.specs.Into.{numbers_into}
 use Rattle.wm_incoming.specs.Standing.{head_at}
-use Rattle.wm_labels.specs.Labels.{IsLabel, IsLabelBy, IsMade, IsMadeBy, IsReached}
+use Rattle.wm_labels.specs.Labels.{IsLabel, IsLabelBy, IsMade, IsMadeBy}
 use Rattle.wm_walk.specs.Keeping.{without_all}
 use Rattle.wm_walk.proofs.Into.{there}
 use Rattle.wm_walk.proofs.Pairs.{all_out}
@@ -33,7 +31,7 @@ got_before {X} [] more k x e = absurd (none e)
 got_before (y ∷ xs) more zero x e = e
 got_before (y ∷ xs) more (suc k) x e = got_before xs more k x e
 
-got_last : {X : Type 0} (xs : List X) (x : X) → slice_get (xs ++ x ∷ []) (length xs) ≡ Some x
+pub got_last : {X : Type 0} (xs : List X) (x : X) → slice_get (xs ++ x ∷ []) (length xs) ≡ Some x
 got_last [] x = refl
 got_last (y ∷ xs) x = got_last xs x
 
@@ -50,7 +48,7 @@ got_cases (z ∷ xs) x y (suc k) e = later (got_cases xs x y k e)
     later (inl h) = inl h
     later (inr h) = inr (ap suc h.0, h.1)
 
-of_more : {S : Type 0} (labels more : List S) (pairs : List (ℕ × S)) → AreOf labels pairs → AreOf (labels ++ more) pairs
+pub of_more : {S : Type 0} (labels more : List S) (pairs : List (ℕ × S)) → AreOf labels pairs → AreOf (labels ++ more) pairs
 of_more {S} labels more pairs h = All-weaker (λ (e : ℕ × S). slice_get labels e.0 ≡ Some e.1) (λ (e : ℕ × S). slice_get (labels ++ more) e.0 ≡ Some e.1) (λ e k. got_before labels more e.0 e.1 k) pairs h
 
 -- each node that is kept is one of the first so many

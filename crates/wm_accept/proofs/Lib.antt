@@ -1,4 +1,5 @@
-pub mod Holding
-pub mod Trying
-pub mod Going
 pub mod Ending
+pub mod Going
+pub mod Holding
+pub mod Living
+pub mod Trying

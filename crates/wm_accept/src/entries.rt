@@ -1,9 +1,10 @@
 // Whether the state of a head holds what an edge to it allows.
-ghost use Rattle.std.specs.Prelude.{◌≡◌, length, slice_get, Some, IfOk, IfSome};
+ghost use Rattle.std.specs.Prelude.{◌≡◌, length, slice_get, Some, IfOk, OnOk, IfSome};
 ghost use Rattle.wm_domain.specs.Points.{Point};
 ghost use Rattle.wm_domain.specs.States.{IsShape};
 ghost use Rattle.wm_images.specs.Labels.{AreShaped, Receives};
 ghost use Rattle.wm_images.specs.Nodes.{node_shape};
+ghost use Rattle.wm_labels.specs.Live.{AreNoted};
 ghost use Rattle.wm_walk.specs.Graphs.{AreDrawn};
 ghost use Rattle.wm_accept.specs.Entries.{IfHeld};
 
@@ -13,6 +14,7 @@ use wm_flow::{Edge, Graph, Head};
 use wm_gaps::{Passed, compared};
 use wm_images::{Images, image_along};
 use wm_kept::Kept;
+use wm_labels::note;
 use wm_ops::NoMemory;
 
 /// What is known of an edge of a head.
@@ -24,16 +26,6 @@ pub enum Entry {
     Held,
     /// The first bound of the state that the image passes.
     Passes(Passed),
-}
-
-/// Notes whether the image along an edge has a point.
-fn note<D: Domain>(live: &mut [bool], number: u32, image: &D)
-    ensures same { length live.new ≡ length live.old }
-{
-    let place = number as usize;
-    if place < live.len() {
-        live[place] = !image.is_empty();
-    }
 }
 
 /// The edge of a number, where it leads to the node.
@@ -107,6 +99,7 @@ pub(crate) fn tried<D: Domain, M: Images<D>>(
     requires kept { AreShaped D.shape_of graph.now kept.now.1 }
     requires state { D.shape_of state.now ≡ node_shape graph.now node }
     ensures same { length live.new ≡ length live.old }
+    ensures noted { OnOk result (AreNoted M.allowed D.holds D.shape_of graph.now kept.now.1 live.old live.new) }
     ensures held { IfOk result (λ entry. IfHeld entry (Receives M.allowed D.holds D.shape_of graph.now kept.now.1 number state.now)) }
 {
     let Some(_edge) = edge_into(graph, number, node) else {
@@ -116,6 +109,6 @@ pub(crate) fn tried<D: Domain, M: Images<D>>(
         return Err(NoMemory);
     };
     let image = image_along(alloc, images, graph, kept, number)?;
-    note(live, number, &image);
+    note(images, graph, kept, number, &image, live);
     entry_of(alloc, shape, &image, state)
 }

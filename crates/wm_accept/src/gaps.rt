@@ -1,6 +1,7 @@
 // The first gap, when all labels were made.
-ghost use Rattle.std.specs.Prelude.{◌≡◌, ◌<◌, ℕ, length, slice_get, Some, IfOk, IfNone};
+ghost use Rattle.std.specs.Prelude.{◌≡◌, ◌<◌, ℕ, length, slice_get, Some, IfOk, OnOk, IfNone};
 ghost use Rattle.wm_images.specs.Labels.{AreShaped};
+ghost use Rattle.wm_labels.specs.Live.{AreNoted};
 ghost use Rattle.wm_walk.specs.Graphs.{AreDrawn, AreStates};
 ghost use Rattle.wm_accept.specs.Entries.{IsClosed};
 
@@ -40,6 +41,7 @@ fn back_gap<D: Domain, M: Images<D>>(
     requires states { AreStates D.shape_of graph.now states.now }
     requires kept { AreShaped D.shape_of graph.now kept.now.1 }
     ensures same { length live.new ≡ length live.old }
+    ensures noted { OnOk result (AreNoted M.allowed D.holds D.shape_of graph.now kept.now.1 live.old live.new) }
     ensures closed { IfOk result (λ gap. IfNone gap (IsClosed M.allowed D.holds D.shape_of graph.now states.now kept.now.1 number)) }
 {
     let Some(head) = head_at(graph, number) else {
@@ -68,6 +70,7 @@ fn entry_at(entries: &[Entry], number: u32) -> Entry
 }
 
 /// The gap of a head by its two edges, entry before back.
+#[tactic(auto, using(wm_labels::proofs::Noting::noted_none))]
 fn gap_at<D: Domain, M: Images<D>>(
     alloc: Global,
     images: &M,
@@ -82,6 +85,7 @@ fn gap_at<D: Domain, M: Images<D>>(
     requires states { AreStates D.shape_of graph.now states.now }
     requires kept { AreShaped D.shape_of graph.now kept.now.1 }
     ensures same { length live.new ≡ length live.old }
+    ensures noted { OnOk result (AreNoted M.allowed D.holds D.shape_of graph.now kept.now.1 live.old live.new) }
     ensures entry { IfOk result (λ gap. IfNone gap (slice_get entries.now number ≡ Some Entry.Held)) }
     ensures closed { IfOk result (λ gap. IfNone gap (IsClosed M.allowed D.holds D.shape_of graph.now states.now kept.now.1 number)) }
 {
@@ -93,6 +97,7 @@ fn gap_at<D: Domain, M: Images<D>>(
 }
 
 /// The first gap, in the order of the heads.
+#[tactic(auto, using(wm_labels::proofs::Noting::noted_none))]
 pub(crate) fn first_gap<D: Domain, M: Images<D>>(
     alloc: Global,
     images: &M,
@@ -106,6 +111,7 @@ pub(crate) fn first_gap<D: Domain, M: Images<D>>(
     requires states { AreStates D.shape_of graph.now states.now }
     requires kept { AreShaped D.shape_of graph.now kept.now.1 }
     ensures same { length live.new ≡ length live.old }
+    ensures noted { OnOk result (AreNoted M.allowed D.holds D.shape_of graph.now kept.now.1 live.old live.new) }
     ensures entries { IfOk result (λ gap. IfNone gap ((k : ℕ) → k < length entries.now → slice_get entries.now k ≡ Some Entry.Held)) }
     ensures closed { IfOk result (λ gap. IfNone gap ((k : ℕ) → k < length entries.now → IsClosed M.allowed D.holds D.shape_of graph.now states.now kept.now.1 k)) }
 {

@@ -3,9 +3,11 @@ ghost use Rattle.std.specs.Prelude.{◌≡◌, ◌<◌, ◌+◌, length, slice_s
 ghost use Rattle.wm_domain.specs.States.{IsShape};
 ghost use Rattle.wm_images.specs.Labels.{AreShaped, Receives};
 ghost use Rattle.wm_images.specs.Nodes.{node_shape};
+ghost use Rattle.wm_labels.specs.Live.{AreNoted};
 ghost use Rattle.wm_walk.specs.Graphs.{AreDrawn, AreStates};
 ghost use Rattle.wm_walk.specs.Rows.{AreRows};
 ghost use Rattle.wm_accept.specs.Entries.{AreTried};
+ghost use Rattle.wm_accept.specs.Live.{AreLive};
 ghost use Rattle.wm_accept.specs.Watched.{Watched};
 
 use crate::entries::{Entry, head_at, state_at, tried};
@@ -42,6 +44,7 @@ fn try_head<D: Domain, M: Images<D>>(
     requires states { AreStates D.shape_of graph.now states.now }
     requires kept { AreShaped D.shape_of graph.now kept.now.1 }
     ensures same { length live.new ≡ length live.old }
+    ensures noted { OnOk result (AreNoted M.allowed D.holds D.shape_of graph.now kept.now.1 live.old live.new) }
     ensures tried { OnOk result (AreTried M.allowed D.holds D.shape_of graph.now states.now kept.now.1 entries.old entries.new) }
 {
     let Some(head) = head_at(graph, number) else {
@@ -58,6 +61,7 @@ fn try_head<D: Domain, M: Images<D>>(
 }
 
 /// Tries the entry edge of the head at a node, where there is one.
+#[tactic(auto, using(wm_labels::proofs::Noting::noted_none))]
 fn try_entry<D: Domain, M: Images<D>>(
     alloc: Global,
     images: &M,
@@ -72,6 +76,7 @@ fn try_entry<D: Domain, M: Images<D>>(
     requires states { AreStates D.shape_of graph.now states.now }
     requires kept { AreShaped D.shape_of graph.now kept.now.1 }
     ensures same { length live.new ≡ length live.old }
+    ensures noted { OnOk result (AreNoted M.allowed D.holds D.shape_of graph.now kept.now.1 live.old live.new) }
     ensures tried { OnOk result (AreTried M.allowed D.holds D.shape_of graph.now states.now kept.now.1 entries.old entries.new) }
 {
     match head {
@@ -100,10 +105,10 @@ pub(crate) fn visit<D: Domain, M: Images<D>, W: Watcher<D>>(
     requires drawn { AreDrawn M.drawn graph.now }
     requires shapes { All IsShape graph.now.shapes }
     requires states { AreStates D.shape_of graph.now states.now }
-    requires standing { Watched M.allowed M.started D.holds D.shape_of (W.saw program.now graph.now watcher.old) program.now graph.now states.now kept.old.1 entries.old node }
+    requires standing { Watched M.allowed M.started D.holds D.shape_of (λ labels. W.saw program.now graph.now watcher.old labels × AreLive M.allowed D.holds D.shape_of graph.now live.old labels) program.now graph.now states.now kept.old.1 entries.old node }
     requires next { W.next watcher.old node }
     ensures same { length live.new ≡ length live.old }
-    ensures standing { OnOk result (Watched M.allowed M.started D.holds D.shape_of (W.saw program.now graph.now watcher.new) program.now graph.now states.now kept.new.1 entries.new (node + 1)) }
+    ensures standing { OnOk result (Watched M.allowed M.started D.holds D.shape_of (λ labels. W.saw program.now graph.now watcher.new labels × AreLive M.allowed D.holds D.shape_of graph.now live.new labels) program.now graph.now states.now kept.new.1 entries.new (node + 1)) }
     ensures next { OnOk result (W.next watcher.new (node + 1)) }
 {
     let head = head_of(rows, node);

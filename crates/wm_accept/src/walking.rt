@@ -1,8 +1,9 @@
 // The walk over all nodes.
-ghost use Rattle.std.specs.Prelude.{◌≡◌, [], length, replicate, All, IfOk, IfNone};
+ghost use Rattle.std.specs.Prelude.{◌≡◌, ℕ, [], length, slice_get, Some, false, replicate, All, IfOk, IfNone};
 ghost use Rattle.wm_domain.specs.States.{IsShape};
 ghost use Rattle.wm_labels.specs.Accepted.{IsAccepted};
 ghost use Rattle.wm_walk.specs.Graphs.{AreDrawn, AreStates};
+ghost use Rattle.wm_accept.specs.Live.{AreLive};
 ghost use Rattle.wm_accept.specs.Watched.{IsWatched};
 
 use crate::entries::Entry;
@@ -30,6 +31,16 @@ fn unseen(alloc: Global, count: usize) -> Result<Vec<Entry>, NoMemory>
     Ok(list)
 }
 
+/// Each edge is one along which a run may go on, as long as its image was not seen to be without a point.
+fn mark_all(marks: &mut [bool])
+    ensures same { length marks.new ≡ length marks.old }
+    ensures all { (k : ℕ) → slice_get marks.new k ≡ Some false → ⊥ }
+{
+    for place in 0..marks.len() {
+        marks[place] = true;
+    }
+}
+
 /// Walks the nodes in their order with the states of the heads, shows the label of each node, and notes of each edge whether its
 /// image has a point. None where the states are accepted; else the first gap, in the order of the heads, entry before back edge,
 /// lines in the order of a certificate's text.
@@ -51,8 +62,10 @@ pub fn walk<D: Domain, M: Images<D>, W: Watcher<D>>(
     requires saw { W.saw program.now graph.now watcher.old [] }
     ensures same { length live.new ≡ length live.old }
     ensures accepted { IfOk result (λ gap. IfNone gap (IsAccepted M.allowed M.started D.holds D.shape_of program.now graph.now states.now)) }
+    ensures live { IfOk result (λ gap. IfNone gap (IsWatched M.allowed M.started D.holds D.shape_of (λ labels. W.saw program.now graph.now watcher.new labels × AreLive M.allowed D.holds D.shape_of graph.now live.new labels) program.now graph.now states.now)) }
     ensures watched { IfOk result (λ gap. IfNone gap (IsWatched M.allowed M.started D.holds D.shape_of (W.saw program.now graph.now watcher.new) program.now graph.now states.now)) }
 {
+    mark_all(live);
     let rows = rows_of(alloc, graph)?;
     let Ok(count) = u32::try_from(graph.node_shape.items().len()) else {
         return Err(NoMemory);

@@ -3,7 +3,7 @@ ghost use Rattle.std.specs.Prelude.{◌≡◌, All, IfOk};
 ghost use Rattle.wm_domain.specs.States.{IsShape};
 ghost use Rattle.wm_labels.specs.Accepted.{IsAccepted};
 ghost use Rattle.wm_walk.specs.Graphs.{AreDrawn, AreStates};
-ghost use Rattle.wm_check.specs.Found.{AreCounted, AreFindings};
+ghost use Rattle.wm_check.specs.Found.{AreCounted, AreStateLines, AreFindings};
 
 use crate::turning::{shape_at, turns_by_head};
 use crate::watching::{Outcome, Told, watched};
@@ -51,11 +51,12 @@ fn lines_of<D: Domain>(
     states: &[D],
 ) -> Result<List<StateLine>, NoMemory>
     requires states { AreStates D.shape_of graph.now states.now }
+    ensures lines { IfOk result (λ lines. AreStateLines D.holds program.now.objects tables.now.objects states.now lines) }
 {
-    let Some(head) = graph.heads.items().first() else {
+    let Some(head) = graph.heads.items().get(0) else {
         return Err(NoMemory);
     };
-    let Some(state) = states.first() else {
+    let Some(state) = states.get(0) else {
         return Err(NoMemory);
     };
     match shape_at(graph, head.node) {
@@ -83,6 +84,7 @@ fn findings_of<D: Domain>(
 ) -> Result<Findings, NoMemory>
     requires states { AreStates D.shape_of graph.now states.now }
     ensures sites { IfOk result (λ findings. findings.sites ≡ told.verdicts) }
+    ensures lines { IfOk result (λ findings. AreStateLines D.holds program.now.objects tables.now.objects states.now findings.states) }
     ensures counted { IfOk result (λ findings. AreCounted program.now graph.now weights.now turns.now told.live.items told.stops.items findings) }
 {
     let live = told.live.as_slice();

@@ -2,6 +2,7 @@
 ghost use Rattle.std.specs.Prelude.{◌≡◌, All, IfOk};
 ghost use Rattle.wm_domain.specs.States.{IsShape};
 ghost use Rattle.wm_walk.specs.Graphs.{AreDrawn, AreStates};
+ghost use Rattle.wm_check.specs.Found.{AreFacts};
 
 use crate::turning::turns_by_head;
 use crate::watching::{Outcome, watched};
@@ -36,6 +37,7 @@ pub fn facts<D: Domain, M: Images<D>>(
     requires drawn { AreDrawn M.drawn graph.now }
     requires shapes { All IsShape graph.now.shapes }
     requires states { AreStates D.shape_of graph.now certificate.now.heads }
+    ensures facts { IfOk result (λ facts. AreFacts M.allowed M.started D.holds D.shape_of program.now graph.now certificate.now.heads facts) }
 {
     let tables = tables_of(alloc, program)?;
     let states = certificate.heads.items();
@@ -43,11 +45,9 @@ pub fn facts<D: Domain, M: Images<D>>(
         Outcome::Gap(_gap) => Err(NoMemory),
         Outcome::Accepted(told) => {
             let turns = turns_by_head(alloc, graph, states)?;
-            Ok(Facts {
-                turns,
-                live: listed(alloc, told.live.as_slice())?,
-                stops: listed(alloc, told.stops.as_slice())?,
-            })
+            let live = listed(alloc, told.live.as_slice())?;
+            let stops = listed(alloc, told.stops.as_slice())?;
+            Ok(Facts { turns, live, stops })
         }
     }
 }

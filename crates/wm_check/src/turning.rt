@@ -2,6 +2,7 @@
 ghost use Rattle.std.specs.Prelude.{◌≡◌, IfOk, IfSome};
 ghost use Rattle.wm_images.specs.Nodes.{node_shape};
 ghost use Rattle.wm_walk.specs.Graphs.{AreStates};
+ghost use Rattle.wm_check.specs.Counters.{first_growth, counter_of, IsTurns, IsTurnsOf, AreTurns};
 
 use std::alloc::Global;
 use wm_domain::{Domain, Shape};
@@ -19,15 +20,24 @@ pub(crate) fn shape_at(graph: &Graph, node: u32) -> Option<&Shape>
     }
 }
 
+/// What grows first.
+fn first_growth(growths: &[Growth]) -> Option<Growth>
+    ensures { result ≡ first_growth growths.now }
+{
+    match growths.split_first() {
+        None => None,
+        Some((growth, _rest)) => Some(*growth),
+    }
+}
+
 /// The counter of a loop and its step, which the back edge adds to it.
-fn counter_of(graph: &Graph, head: &Head) -> Option<Growth> {
+fn counter_of(graph: &Graph, head: &Head) -> Option<Growth>
+    ensures { result ≡ counter_of graph.now head.now }
+{
     match graph.edges.items().get(head.back as usize) {
         None => None,
         Some(edge) => match &edge.action {
-            Action::Turn { growths } => match growths.items().first() {
-                None => None,
-                Some(growth) => Some(*growth),
-            },
+            Action::Turn { growths } => first_growth(growths.items()),
             Action::AssignForm { .. } => None,
             Action::Plain { .. } => None,
             Action::Cast { .. } => None,
@@ -49,8 +59,10 @@ fn counter_of(graph: &Graph, head: &Head) -> Option<Growth> {
     }
 }
 
+#[tactic(auto, using(crate::proofs::Turned::bare_turns, crate::proofs::Turned::told_turns))]
 fn turns_by<D: Domain>(state: &D, shape: &Shape, growth: Growth) -> Result<Option<u64>, NoMemory>
     requires shape { D.shape_of state.now ≡ shape.now }
+    ensures { IfOk result (λ turns. IsTurns D.holds growth state.now turns) }
 {
     if growth.variable as usize >= shape.group.items().len() + shape.singles.items().len() {
         return Err(NoMemory);
@@ -71,6 +83,7 @@ fn turns_by<D: Domain>(state: &D, shape: &Shape, growth: Growth) -> Result<Optio
 
 fn turns_of<D: Domain>(graph: &Graph, head: &Head, state: &D) -> Result<Option<u64>, NoMemory>
     requires shape { D.shape_of state.now ≡ node_shape graph.now head.now.node }
+    ensures { IfOk result (λ turns. IsTurnsOf D.holds head.now.loop_id (counter_of graph.now head.now) state.now turns) }
 {
     match head.loop_id {
         None => Ok(None),
@@ -91,6 +104,7 @@ pub(crate) fn turns_by_head<D: Domain>(
     states: &[D],
 ) -> Result<List<Option<u64>>, NoMemory>
     requires states { AreStates D.shape_of graph.now states.now }
+    ensures turns { IfOk result (λ turns. AreTurns D.holds graph.now states.now turns) }
 {
     let heads = graph.heads.items();
     let mut turns = List::new(alloc);

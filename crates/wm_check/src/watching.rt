@@ -99,12 +99,18 @@ fn first_watch(
     })
 }
 
+/// What was told, when all nodes were shown. A graph whose edges do not stand in the order of their nodes, which no graph of a program
+/// is, is refused.
 fn finished(alloc: Global, graph: &Graph, live: Vec<bool>, watch: Watch) -> Result<Told, NoMemory>
     ensures all { IfOk result (λ told. watch.judge.edge ≡ length graph.now.edges) }
     ensures verdicts { IfOk result (λ told. told.verdicts ≡ verdicts_of watch.judge.entries.items) }
+    ensures live { IfOk result (λ told. told.live.items ≡ live.items) }
 {
     let Watch { judge, stops, .. } = watch;
-    let verdicts = judge.finish(alloc, graph)?;
+    if judge.edges() != graph.edges.items().len() {
+        return Err(NoMemory);
+    }
+    let verdicts = judge.finish(alloc)?;
     Ok(Told {
         live,
         stops,

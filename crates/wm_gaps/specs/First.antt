@@ -118,3 +118,7 @@ pub record IsFirst (IsOne : Line → Type 0) (Has Allowed : Point → Type 0) (i
 abbrev pub IsAnswer : (IsOne : Line → Type 0) → (Has Allowed : Point → Type 0) → Option Passed → Type 0
 IsAnswer IsOne Has Allowed None = AreHeld IsOne Has Allowed
 IsAnswer IsOne Has Allowed (Some it) = IsFirst IsOne Has Allowed it
+
+-- each point of the first state is one of the second
+abbrev pub IsWithin : (Has Allowed : Point → Type 0) → Type 0
+IsWithin Has Allowed = (p : Point) → Has p → Allowed p

@@ -2,7 +2,7 @@
 ghost use Rattle.std.specs.Prelude.{◌≡◌, ◌≤◌, ◌<◌, ℕ, length, IfOk, IfSome, IfNone, MatchOption};
 ghost use Rattle.wm_domain.specs.Points.{Point};
 ghost use Rattle.wm_domain.specs.States.{count_of, array_count};
-ghost use Rattle.wm_gaps.specs.First.{IsVariableLine, IsOfPair, IsRowLine, IsPairLine, IsGroupLine, IsArrayLine, IsLine, IsFirst, IsAnswer};
+ghost use Rattle.wm_gaps.specs.First.{IsVariableLine, IsOfPair, IsRowLine, IsPairLine, IsGroupLine, IsArrayLine, IsLine, IsFirst, IsAnswer, IsWithin};
 
 use crate::lines::{array_passed, difference_passed, sum_passed, variable_passed};
 use crate::passed::Passed;
@@ -154,9 +154,10 @@ pub fn first_passed<D: Domain>(
     }
 }
 
-/// None where each point of the first state is one of the second, else the first bound that it passes.
+/// None exactly where each point of the first state is one of the second, else the first bound that it passes.
 ///
 /// `NoMemory`: memory ran out, or no bound tells the states apart, which the law of a domain excludes.
+#[tactic(auto, using(crate::proofs::Outside::outside))]
 pub fn compared<D: Domain>(
     alloc: Global,
     shape: &Shape,
@@ -167,6 +168,7 @@ pub fn compared<D: Domain>(
     requires allowed_shape { D.shape_of allowed.now ≡ shape.now }
     ensures within { IfOk result (λ found. IfNone found ((p : Point) → D.holds have.now p → D.holds allowed.now p)) }
     ensures first { IfOk result (λ found. IfSome found (IsFirst (IsLine D.PAIRS shape.now) (D.holds have.now) (D.holds allowed.now))) }
+    ensures outside { IfOk result (λ found. IfSome found (λ passed. IsWithin (D.holds have.now) (D.holds allowed.now) → ⊥)) }
 {
     if have.within(allowed) {
         return Ok(None);

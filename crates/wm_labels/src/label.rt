@@ -1,10 +1,11 @@
 // The label of a node.
-ghost use Rattle.std.specs.Prelude.{◌≡◌, ◌≢◌, length, All, IfOk, IfSome, MatchOption};
+ghost use Rattle.std.specs.Prelude.{◌≡◌, ◌≢◌, length, slice_get, slice_set, false, All, IfOk, OnOk, IfSome, MatchOption};
 ghost use Rattle.wm_domain.specs.States.{Keeps, IsShape, IsBare};
 ghost use Rattle.wm_domain.specs.Points.{Point};
 ghost use Rattle.wm_images.specs.Nodes.{node_shape};
 ghost use Rattle.wm_images.specs.Labels.{PointsOf, AreShaped, Receives};
 ghost use Rattle.wm_labels.specs.Labels.{Leads};
+ghost use Rattle.wm_labels.specs.Live.{AreNoted};
 
 use std::alloc::Global;
 use wm_domain::Domain;
@@ -14,14 +15,37 @@ use wm_kept::Kept;
 use wm_ops::NoMemory;
 use wm_program::Program;
 
-/// Notes whether the image along an edge has a point.
-fn note<D: Domain>(live: &mut [bool], number: u32, image: &D)
-    ensures same { length live.new ≡ length live.old }
+fn set_mark(marks: &mut [bool], place: usize, mark: bool)
+    ensures { marks.new ≡ slice_set marks.old place mark }
 {
-    let place = number as usize;
-    if place < live.len() {
-        live[place] = !image.is_empty();
+    if place < marks.len() {
+        marks[place] = mark;
     }
+}
+
+/// Whether there is a point.
+fn has_point<D: Domain>(state: &D) -> bool
+    ensures none { result ≡ false → IsBare (D.holds state.now) }
+{
+    !state.is_empty()
+}
+
+/// Notes whether the image along an edge has a point.
+pub fn note<D: Domain, M: Images<D>>(
+    _images: &M,
+    graph: &Graph,
+    kept: &Kept<D>,
+    number: u32,
+    image: &D,
+    live: &mut [bool],
+)
+    requires shape { MatchOption (slice_get graph.now.edges number) ⊥ (λ edge. D.shape_of image.now ≡ node_shape graph.now edge.target) }
+    requires sound { Receives M.allowed D.holds D.shape_of graph.now kept.now.1 number image.now }
+    ensures same { length live.new ≡ length live.old }
+    ensures noted { AreNoted M.allowed D.holds D.shape_of graph.now kept.now.1 live.old live.new }
+{
+    let mark = has_point(image);
+    set_mark(live, number as usize, mark);
 }
 
 /// What was reached so far, and one image more.
@@ -102,14 +126,16 @@ fn receive<D: Domain, M: Images<D>>(
     ensures shape { IfOk result (λ s. D.shape_of s ≡ node_shape graph.now node) }
     ensures before { IfOk result (λ s. (p : Point) → PointsOf D.holds reached p → D.holds s p) }
     ensures sound { IfOk result (λ s. Receives M.allowed D.holds D.shape_of graph.now kept.now.1 number s) }
+    ensures noted { OnOk result (AreNoted M.allowed D.holds D.shape_of graph.now kept.now.1 live.old live.new) }
 {
     let next = image_along(alloc, images, graph, kept, number)?;
-    note(live, number, &next);
+    note(images, graph, kept, number, &next, live);
     Ok(joined(reached, next))
 }
 
 /// The label of a node at which no head stands: what the edges to it allow, and at the first node the states with which a
 /// run starts. Notes for each of these edges whether its image has a point.
+#[tactic(auto, using(crate::proofs::Noting::noted_none))]
 pub fn reached<D: Domain, M: Images<D>>(
     alloc: Global,
     images: &M,
@@ -127,6 +153,7 @@ pub fn reached<D: Domain, M: Images<D>>(
     ensures shape { IfOk result (λ s. D.shape_of s ≡ node_shape graph.now node) }
     ensures start { IfOk result (λ s. node ≡ 0 → Keeps D.holds D.shape_of s (M.started program.now graph.now)) }
     ensures edges { IfOk result (λ s. All (λ number. Receives M.allowed D.holds D.shape_of graph.now kept.now.1 number s) into.now) }
+    ensures noted { OnOk result (AreNoted M.allowed D.holds D.shape_of graph.now kept.now.1 live.old live.new) }
 {
     let mut state = start(alloc, images, program, graph, node)?;
     for number in into {

@@ -3,4 +3,4 @@
 
 mod label;
 
-pub use label::{nowhere, reached};
+pub use label::{note, nowhere, reached};

@@ -1,5 +1,5 @@
 // The label of a node.
-ghost use Rattle.std.specs.Prelude.{◌≡◌, length, All, IfOk, IfSome, Some, slice_get};
+ghost use Rattle.std.specs.Prelude.{◌≡◌, length, All, IfOk, OnOk, IfSome, Some, slice_get};
 ghost use Rattle.wm_domain.specs.States.{IsShape};
 ghost use Rattle.wm_domain.specs.Points.{Point};
 ghost use Rattle.wm_images.specs.Labels.{AreShaped, PointsAt};
@@ -7,6 +7,7 @@ ghost use Rattle.wm_images.specs.Nodes.{node_shape};
 ghost use Rattle.wm_incoming.specs.Into.{numbers_into};
 ghost use Rattle.wm_incoming.specs.Standing.{head_at};
 ghost use Rattle.wm_labels.specs.Labels.{IsMade};
+ghost use Rattle.wm_labels.specs.Live.{AreNoted};
 ghost use Rattle.wm_walk.specs.Graphs.{AreDrawn, AreStates};
 
 use std::alloc::Global;
@@ -58,6 +59,7 @@ fn copied<D: Domain>(
 /// Notes of each edge to a node without a head whether its image has a point.
 ///
 /// `NoMemory`: memory ran out, or a label that is needed is not kept.
+#[tactic(auto, using(wm_labels::proofs::Noting::noted_none))]
 pub fn label_of<D: Domain, M: Images<D>>(
     alloc: Global,
     images: &M,
@@ -77,6 +79,7 @@ pub fn label_of<D: Domain, M: Images<D>>(
     requires states { AreStates D.shape_of graph.now states.now }
     requires kept { AreShaped D.shape_of graph.now kept.now.1 }
     ensures same { length live.new ≡ length live.old }
+    ensures noted { OnOk result (AreNoted M.allowed D.holds D.shape_of graph.now kept.now.1 live.old live.new) }
     ensures made { IfOk result (λ s. IsMade M.allowed M.started D.holds D.shape_of program.now graph.now states.now kept.now.1 node s) }
 {
     match head {

@@ -1,6 +1,8 @@
-use Rattle.std.proofs.Common.{sym, subst, ◌∙◌, ℕ, List}
+use Rattle.std.proofs.Common.{sym, subst, ◌∙◌}
 use Rattle.wm_images.specs.Labels.{AreShaped}
 use Rattle.wm_accept.specs.Entries.{AreTried}
+use Rattle.wm_accept.specs.Live.{AreLive}
+use Rattle.wm_accept.proofs.Living.{live_more}
 use Rattle.wm_accept.proofs.Going.{below, shaped_more, watched_next}
 use Rattle.wm_accept.proofs.visit.visit.Goals as goal
 
@@ -25,6 +27,6 @@ pub returns-clause-standing : goal.returns-clause-standing
 returns-clause-standing g c =
     watched_next g.M.Images.allowed g.M.Images.started g.D.Domain.holds g.D.Domain.shape_of c.args.program.now c.args.graph.now c.args.states.now c.args.kept.now.1 c.args.node c.in_ok-label.label c.args.entries.now c.try_entry.new.entries c.ended_at.result.now c.requires.standing.standing c.in_ok-label.ensures.made
     (subst (λ ps. AreTried g.M.Images.allowed g.D.Domain.holds g.D.Domain.shape_of c.args.graph.now c.args.states.now ps c.args.entries.now c.try_entry.new.entries) c.in_ok-keep.ensures.kept c.in_ok-try_entry.ensures.tried)
-    (g.W.Watcher.saw c.args.program.now c.args.graph.now c.see.new.self)
+    (λ labels. g.W.Watcher.saw c.args.program.now c.args.graph.now c.see.new.self labels × AreLive g.M.Images.allowed g.D.Domain.holds g.D.Domain.shape_of c.args.graph.now c.try_entry.new.live labels)
     c.keep.new.kept.1 c.give_up_all.new.kept.1 c.in_ok-keep.ensures.kept c.give_up_all.ensures.given_up
-    (c.in_ok-see.ensures.saw c.requires.standing.standing.labels c.requires.standing.saw)
+    (c.in_ok-see.ensures.saw c.requires.standing.standing.labels c.requires.standing.saw.0, live_more g.M.Images.allowed g.D.Domain.holds g.D.Domain.shape_of c.args.graph.now c.requires.standing.standing.labels c.args.kept.now.1 c.keep.new.kept.1 c.args.node c.in_ok-label.label c.args.live.now c.label_of.new.live c.try_entry.new.live c.requires.standing.standing.count c.requires.standing.standing.are_of c.requires.standing.saw.1 c.in_ok-label.ensures.noted c.in_ok-keep.ensures.kept c.in_ok-try_entry.ensures.noted)
