@@ -65,14 +65,6 @@ fn is_count(action: &Action) -> bool {
     }
 }
 
-fn is_call(action: &Action) -> bool {
-    match action {
-        Action::Enter { .. } => true,
-        Action::Leave { .. } => true,
-        _ => false,
-    }
-}
-
 /// What an edge names that pairs its nodes by place.
 fn placed(
     alloc: Global,

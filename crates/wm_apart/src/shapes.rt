@@ -34,7 +34,7 @@ fn copied(alloc: Global, ranges: &[Interval]) -> Result<List<Interval>, NoMemory
     Ok(list)
 }
 
-/// The ranges at some places. A place that is not there has the range of one number, as nothing is carried to it.
+/// The ranges at some places. `NoMemory`: memory ran out, or one of the places is not there.
 fn chosen(alloc: Global, ranges: &[Interval], places: &[u32]) -> Result<List<Interval>, NoMemory> {
     let mut list = List::new(alloc);
     for place in places {

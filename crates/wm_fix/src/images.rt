@@ -20,7 +20,6 @@ use wm_domain::{Domain, Shape};
 use wm_flow::{Edge, Graph};
 use wm_images::Images;
 use wm_interval::Interval;
-use wm_labels::nowhere;
 use wm_ops::NoMemory;
 use wm_uses::call_of;
 

@@ -1,5 +1,5 @@
 // What is known of the nodes and of the edges during a walk.
-ghost use Rattle.std.specs.Prelude.{◌≡◌, slice_get, slice_set, Some, None, IfOk, IfSome, OnOk};
+ghost use Rattle.std.specs.Prelude.{◌≡◌, slice_get, slice_set, Some, None, IfOk, IfSome};
 ghost use Rattle.wm_images.specs.Nodes.{node_shape};
 ghost use Rattle.wm_walk.specs.Graphs.{AreStates};
 ghost use Rattle.wm_fix.specs.Cores.{AreCores};

@@ -1,5 +1,5 @@
 // Narrowing: each head gets the least state that holds the images along its two edges, by the labels of the states before.
-ghost use Rattle.std.specs.Prelude.{◌≡◌, All, IfOk, OnOk};
+ghost use Rattle.std.specs.Prelude.{All, IfOk, OnOk};
 ghost use Rattle.wm_domain.specs.States.{IsShape};
 ghost use Rattle.wm_walk.specs.Graphs.{AreDrawn, AreStates};
 ghost use Rattle.wm_fix.specs.Cores.{AreCores};

@@ -1,7 +1,7 @@
 // The rise: the nodes are walked in their order, and the state of a head is raised over the grid as often as an image along one of
 // its edges asks for it. Where its back edge does, the walk goes back to the head. So a loop is walked until its states hold, before
 // what follows it. An image is made again only where something changed that its edge reads or changes.
-ghost use Rattle.std.specs.Prelude.{◌≡◌, All, IfOk, OnOk};
+ghost use Rattle.std.specs.Prelude.{All, IfOk, OnOk};
 ghost use Rattle.wm_domain.specs.States.{IsShape};
 ghost use Rattle.wm_walk.specs.Graphs.{AreDrawn, AreStates};
 ghost use Rattle.wm_fix.specs.Cores.{AreCores};

@@ -2,6 +2,7 @@
 ghost use Rattle.std.specs.Prelude.{◌≡◌, slice_get, Some, IfSome};
 
 use crate::plan::Plan;
+use crate::states::shape_at;
 use std::alloc::Global;
 use wm_apart::{Apart, Part};
 use wm_domain::Shape;
@@ -31,11 +32,8 @@ pub(crate) fn part_at(apart: &Apart, number: u32) -> Option<&Part> {
 
 /// The shape of a node of the graph.
 pub(crate) fn whole_shape<'g>(setting: &Setting<'g>, node: u32) -> Result<&'g Shape, NoMemory> {
-    match setting.graph.node_shape.items().get(node as usize) {
+    match shape_at(setting.graph, node) {
         None => Err(NoMemory),
-        Some(number) => match setting.graph.shapes.items().get(*number as usize) {
-            None => Err(NoMemory),
-            Some(shape) => Ok(shape),
-        },
+        Some(shape) => Ok(shape),
     }
 }
